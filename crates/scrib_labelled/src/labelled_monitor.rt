@@ -368,11 +368,22 @@ impl LabelledMonitor {
         match self.line.permitted(id, place as u64, head) {
             Some(line) => self.gathered.add_bytes(line),
             // no label is as long as that
-            None => {
-                let told = Told::Judged(Verdict::Permitted);
-                self.gather_line(&note_reply(id, Ok(Noted { place, told })), label)
-            }
+            None => self.gather_long(id, place, label),
         }
+    }
+
+    // The same of any label. It is apart so that the function above needs no room for a reply.
+    #[inline(never)]
+    fn gather_long(&mut self, id: u32, place: usize, label: Label<'_>) -> Result<(), AllocError>
+        ensures core { self.new.core ≡ self.old.core }
+        ensures style { self.new.style ≡ self.old.style }
+        ensures ok { OnOk result (self.new.gathered.bytes.items ≡ self.old.gathered.bytes.items
+            ++ labelled_reply format.Line (tag_of label.entry) (name_of label.entry)
+            (reply.Noted id place (Judged Permitted))) }
+        ensures err { OnErr result (self.new.gathered.bytes.items ≡ self.old.gathered.bytes.items) }
+    {
+        let told = Told::Judged(Verdict::Permitted);
+        self.gather_line(&note_reply(id, Ok(Noted { place, told })), label)
     }
 
     // Gathers the line of the reply with this label.

@@ -11,10 +11,11 @@ use crate::label_options::LabelOptions;
 use crate::line_count::LineCount;
 use crate::line_parts::LineParts;
 use crate::line_reading::read_line;
-use crate::object_exchange::ObjectScratch;
+use crate::object_exchange::ObjectText;
 use crate::put_text::PutText;
 use scrib_core::format::Format;
 use scrib_core::step::Step;
+use scrib_objects::object_reader::ObjectReader;
 use scrib_script_io::fault::ScriptFault;
 use scrib_script_reader::entry::Entry;
 use scrib_script_reader::item::Item;
@@ -36,7 +37,8 @@ pub struct LabelledRun<S: EntryStage> {
     pub(crate) alloc: Global,
     pub(crate) options: LabelOptions,
     pub(crate) reader: Reader,
-    pub(crate) objects: ObjectScratch,
+    pub(crate) objects: ObjectReader,
+    pub(crate) object_text: ObjectText,
     /// What takes the entries.
     pub stage: S,
     // The line so far, as far as it is kept.

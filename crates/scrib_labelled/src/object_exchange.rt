@@ -1,5 +1,5 @@
-//! Reads most objects of a long script: exchanges without other members. Those that are spelled as the program prints
-//! objects are read by a quicker way.
+//! Reads most objects of a long script: exchanges without escapes and other members. The quickest way is for those that
+//! are spelled as the program prints objects.
 
 ghost use Rattle.std.specs.Prelude.{◌≡◌, ◌++◌, ◌∷◌, true, IfSome, OnOk};
 ghost use Rattle.scrib_objects.specs.ExchangeObjects as objects;
@@ -10,31 +10,30 @@ use crate::exchange_line::{ExchangeLine, exchange_in};
 use crate::label_options::LabelOptions;
 use crate::object_lines::{MAX_OBJECT_BYTES, object_options};
 use scrib_labels::session_names::SessionNames;
+use scrib_objects::exchange_members::exchange_in_any_order;
 use scrib_objects::exchange_object::{ExchangeObject, exchange_object};
 use scrib_objects::object_options::ObjectOptions;
-use scrib_objects::object_reader::ObjectReader;
 use scrib_script_reader::reader::Reader;
 use scrib_types::text::push_bytes;
 use std::alloc::AllocError;
 
-/// Reads objects, and keeps the room for what an object stands for.
+/// Scratch for what an object stands for.
 #[derive(Drop)]
-pub(crate) struct ObjectScratch {
-    pub(crate) reader: ObjectReader,
+pub(crate) struct ObjectText {
     /// The line.
     pub(crate) line: Vec<u8>,
     /// What its reply begins with for the tag.
     pub(crate) tag_text: Vec<u8>,
 }
 
-/// Returns the exchange of an object, given without its end, that has no other members, and whose conversation is a number
-/// or has a name with a number. None of other objects, and where memory is refused.
+/// Returns the exchange of an object, given without its end, that has no escapes and no other members, and whose
+/// conversation is a number or has a name with a number. None of other objects, and where memory is refused.
 #[inline(always)]
 pub(crate) fn object_exchange<'a>(
     reader: &mut Reader,
     names: &SessionNames,
     options: LabelOptions,
-    scratch: &'a mut ObjectScratch,
+    text: &'a mut ObjectText,
     line: &'a [u8],
 ) -> Option<ExchangeLine<'a>>
     requires { options.objects ≡ true }
@@ -43,16 +42,12 @@ pub(crate) fn object_exchange<'a>(
     if line.len() > MAX_OBJECT_BYTES {
         return None;
     }
-    let ObjectScratch {
-        reader: objects,
-        line: text,
-        tag_text,
-    } = scratch;
-    let object = spelled_exchange(objects, object_options(options), line)?;
-    let Ok(()) = write_object(text, tag_text, object) else {
+    let object = spelled_exchange(object_options(options), line)?;
+    let Ok(()) = write_object(text, object) else {
         return None;
     };
-    let exchange = exchange_in(reader, names, options.names, text.as_slice())?;
+    let ObjectText { line, tag_text } = text;
+    let exchange = exchange_in(reader, names, options.names, line.as_slice())?;
     Some(ExchangeLine {
         tag: object.tag,
         tag_text: tag_text.as_slice(),
@@ -62,32 +57,24 @@ pub(crate) fn object_exchange<'a>(
     })
 }
 
-// The exchange that the object spells: as the program prints objects, or in any other way.
+// The exchange that the object spells.
 #[inline(always)]
-fn spelled_exchange<'a>(
-    reader: &'a mut ObjectReader,
-    options: ObjectOptions,
-    line: &'a [u8],
-) -> Option<ExchangeObject<'a>>
+fn spelled_exchange(options: ObjectOptions, line: &[u8]) -> Option<ExchangeObject<'_>>
     ensures { IfSome result (objects.IsExchangeObject options line.now) }
 {
     match exchange_object(options, line) {
         Some(object) => Some(object),
-        None => reader.read_exchange(options, line),
+        None => exchange_in_any_order(options, line),
     }
 }
 
 // Writes the line of the exchange, and what its reply begins with.
-fn write_object(
-    line: &mut Vec<u8>,
-    text: &mut Vec<u8>,
-    object: ExchangeObject<'_>,
-) -> Result<(), AllocError>
-    ensures line { OnOk result (line.new.items ≡ objects.exchange_line object.entry) }
-    ensures tag { OnOk result (text.new.items ≡ tag_text (bytes_of object.entry.tag)) }
+fn write_object(text: &mut ObjectText, object: ExchangeObject<'_>) -> Result<(), AllocError>
+    ensures line { OnOk result (text.new.line.items ≡ objects.exchange_line object.entry) }
+    ensures tag { OnOk result (text.new.tag_text.items ≡ tag_text (bytes_of object.entry.tag)) }
 {
-    write_line(line, object)?;
-    write_tag(text, object.tag)
+    write_line(&mut text.line, object)?;
+    write_tag(&mut text.tag_text, object.tag)
 }
 
 // Writes the line of the exchange.

@@ -11,10 +11,11 @@ use crate::labelled_line::Untagged;
 use crate::labelled_run::{LabelledRun, tag_of};
 use crate::line_parts::LineParts;
 use crate::line_reading::read_untagged;
-use crate::object_exchange::{ObjectScratch, object_exchange};
+use crate::object_exchange::object_exchange;
 use crate::put_text::PutText;
 use scrib_objects::object_line::{ObjectBody, ObjectLine};
 use scrib_objects::object_options::ObjectOptions;
+use scrib_objects::object_reader::ObjectReader;
 use scrib_script_reader::kept_bytes::KEPT_TEXT_BYTES;
 use scrib_script_reader::line::Line;
 use std::alloc::AllocError;
@@ -43,7 +44,7 @@ impl<S: EntryStage> LabelledRun<S> {
             &mut self.reader,
             self.stage.names(),
             self.options,
-            &mut self.objects,
+            &mut self.object_text,
             line,
         ) {
             return self.stage.note(exchange);
@@ -108,7 +109,7 @@ impl<S: EntryStage> LabelledRun<S> {
 
 // What the line stands for as an object, or none where it is longer than an object may be, or has no tag and is bad.
 fn read_object(
-    scratch: &mut ObjectScratch,
+    objects: &mut ObjectReader,
     options: LabelOptions,
     line: &[u8],
 ) -> Result<Option<ObjectLine>, AllocError>
@@ -117,7 +118,7 @@ fn read_object(
     if line.len() > MAX_OBJECT_BYTES {
         return Ok(None);
     }
-    scratch.reader.read(object_options(options), line)
+    objects.read(object_options(options), line)
 }
 
 /// Returns which members objects may have.

@@ -4,7 +4,7 @@ use crate::entry_stage::EntryStage;
 use crate::label_options::LabelOptions;
 use crate::labelled_run::LabelledRun;
 use crate::line_count::LineCount;
-use crate::object_exchange::ObjectScratch;
+use crate::object_exchange::ObjectText;
 use scrib_objects::object_reader::ObjectReader;
 use scrib_script_io::fault::ScriptFault;
 use scrib_script_reader::kept_bytes::next_lf;
@@ -34,8 +34,8 @@ impl<S: EntryStage> LabelledRun<S> {
             alloc,
             options: labels,
             reader: Reader::new(alloc),
-            objects: ObjectScratch {
-                reader: ObjectReader::new(alloc),
+            objects: ObjectReader::new(alloc),
+            object_text: ObjectText {
                 line: Vec::new(alloc),
                 tag_text: Vec::new(alloc),
             },

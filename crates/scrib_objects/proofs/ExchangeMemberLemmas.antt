@@ -1,24 +1,36 @@
 -- Objects of exchanges whose members come in any order.
-use Rattle.std.proofs.Common.{◌≡◌, ◌≢◌, ◌∙◌, ◌≤◌, inl, inr, ◌⊎◌, ℕ, Bool, true, false, List, [], ◌∷◌, ◌++◌, Option, Some, None, All, IfSome, codes, cond, option_map, option_and_then, unwrap_or, refl, sym, ap, subst, arith, append_assoc, append-nil}
+use Rattle.std.proofs.Common.{◌≡◌, ◌≢◌, ◌∙◌, ◌≤◌, ◌<◌, ◌||◌, ◌==◌, inl, inr, ◌⊎◌, ℕ, Bool, true, false, List, [], ◌∷◌, ◌++◌, Option, Some, None, All, IfSome, codes, cond, if◌then◌else◌, not, length, option_map, option_and_then, unwrap_or, refl, sym, ap, ap₂, subst, arith, rules, append_assoc, append-nil}
 use Rattle.std.specs.Borrow.{Bor}
+use Rattle.std.specs.List.{list_all}
 use Rattle.std.specs.Str.{IsUtf8, bytes_eq}
 use Rattle.std.proofs.lemmas.Bool.{or_cases}
+use Rattle.std.proofs.lemmas.Bool.Decides.{Decides-eqb}
 use Rattle.std.proofs.lemmas.Slice.Eq.{bytes_eq-Decides}
 use Rattle.std.proofs.lemmas.List.Elements.{All-cons, All-nil}
 use Rattle.std.proofs.lemmas.List.Kept.{AllPairs-cons}
-use Rattle.json.specs.Find.{as_str, get_member, later_or}
-use Rattle.json.specs.Json.{Json, null, boolean, number, string, array, object, Items, no_items, item, Members, no_members, member, document, if_last, max_depth, read_key, value}
-use Rattle.json.specs.Lex.{tokens}
+use Rattle.json.specs.Find.{get_member, later_or}
+use Rattle.json.specs.Json.{Json, null, boolean, number, string, array, object, Members, no_members, member, document, if_last, max_depth, value}
+use Rattle.json.specs.Lex.{Lexeme, token, colon, Place, fresh, after_value, after_comma, after_key, begins_colon, between, in_string, lex, may_begin, punctuate, string_token, tokens}
 use Rattle.json.specs.Strict.{AreDistinct, HasUniqueKeys, MembersHaveUniqueKeys, keys}
+use Rattle.json.specs.Text as within
 use Rattle.json.specs.Token.{Token}
-use Rattle.json.specs.Tree.{depth, items_tokens, json_tokens, members_depth, members_tokens}
+use Rattle.json.specs.Tree.{depth, json_tokens, members_depth, members_tokens}
+use Rattle.json.specs.Word.{ends_word}
+use Rattle.json.proofs.Printed.Numbers.{lex-number}
+use Rattle.json.proofs.Printed.Strings.{content-escape, lex-escape}
 use Rattle.json.proofs.Printed.Trees.{value-json_tokens}
+use Rattle.scrib_script_reader.specs.Fields.{is_blank}
 use Rattle.scrib_objects.specs.declared.exchange_members.ExchangeMembers.{ExchangeMembers}
+use Rattle.scrib_objects.specs.declared.exchange_members.Member.{Member}
+use Rattle.scrib_objects.specs.declared.exchange_members.MemberKey.{MemberKey}
+use Rattle.scrib_objects.specs.declared.exchange_members.MemberKey.TheVariants as member_key
 use Rattle.scrib_objects.specs.declared.exchange_object.ExchangeObject.{ExchangeObject}
+use Rattle.scrib_objects.specs.declared.exchange_object.IdValue.{IdValue}
 use Rattle.scrib_objects.specs.declared.object_options.ObjectOptions.{ObjectOptions}
-use Rattle.scrib_objects.specs.ExchangeMembers.{BeginsWithMembers, IsAdded, SpellsMembers, StandsForExchange, text_value, value_under}
-use Rattle.scrib_objects.specs.ExchangeObjects.{IsExchangeObject, is_exchange}
-use Rattle.scrib_objects.specs.Objects.{Spelling, as_line, body_of, body_of_word, body_or_bad, field_under, fields_under, id_text, json_of, spaced, spelled, string_under, tag_of, text_of, as_bad}
+use Rattle.scrib_objects.specs.ExchangeMembers.{HasMembers, IsAdded, IsMember, IsObjectEnd, IsPlainValue, IsShownTag, SkipsBlanks, SpellsMembers, StandsForExchange, key_text, text_value, value_of, value_under}
+use Rattle.scrib_objects.specs.ExchangeObjects.{IsExchangeObject, IsIdValue, all_plain, is_exchange}
+use Rattle.scrib_objects.specs.Objects.{as_bad, as_line, body_of, body_of_word, body_or_bad, field_under, fields_under, id_field, id_text, is_field, json_of, spaced, spelled, Spelling, string_under, tag_in, tag_of, text_field, text_of}
+use Rattle.scrib_objects.proofs.ExchangeObjectLemmas.{escape_plain, plain_field, short_tag, word_of}
 
 -- ---- the members that are read so far, the last of them first
 
@@ -42,13 +54,9 @@ abbrev AreNew : List (List ℕ × Json) → Type 0
 AreNew [] = Unit {0}
 AreNew (m ∷ front) = (value_in m.0 front ≡ None) × AreNew front
 
--- the value is no array and no object
-abbrev IsFlat : Json → Type 0
-IsFlat j = HasUniqueKeys j × (depth j ≡ 0)
-
-abbrev AreFlat : List (List ℕ × Json) → Type 0
-AreFlat [] = Unit {0}
-AreFlat (m ∷ front) = IsFlat m.1 × AreFlat front
+abbrev ArePlain : List (List ℕ × Json) → Type 0
+ArePlain [] = Unit {0}
+ArePlain (m ∷ front) = IsPlainValue m.1 × ArePlain front
 
 -- what is read of the tokens, where the rest is still to come
 pub record IsReadSoFar (whole : List Token) (m : ExchangeMembers) (rest : List Token) : Type 0 where
@@ -56,113 +64,193 @@ pub record IsReadSoFar (whole : List Token) (m : ExchangeMembers) (rest : List T
   is : whole ≡ tokens_before front rest
   values : (key : List ℕ) → value_in key front ≡ value_under m key
   new : AreNew front
-  flat : AreFlat front
+  plain : ArePlain front
 
 -- ---- one more member
 
 -- nothing is read
 pub nothing_read : (whole : List Token) (m : ExchangeMembers) → ((key : List ℕ) → value_under m key ≡ None) → IsReadSoFar whole m whole
-nothing_read whole m none = record { front = []; is = refl; values = λ key. sym (none key); new = tt; flat = tt }
-
-some_tokens : (j : Json) (rest : List Token) → json_tokens j ++ rest ≢ []
-some_tokens null rest e = absurd (cc)
-some_tokens (boolean b) rest e = absurd (cc)
-some_tokens (number s) rest e = absurd (cc)
-some_tokens (string s) rest e = absurd (cc)
-some_tokens (array js) rest e = absurd (cc)
-some_tokens (object ms) rest e = absurd (cc)
-
-rest-none : {A : Type 0} {x y : A} {xs : List A} → x ∷ xs ≡ y ∷ [] → xs ≡ []
-rest-none e = cc
-
-array-rest : (js : Items) → items_tokens js ≢ []
-array-rest no_items e = absurd (cc)
-array-rest (item j js) e = some_tokens j (items_tokens js) e
-
-object-rest : (ms : Members) → members_tokens ms ≢ []
-object-rest no_members e = absurd (cc)
-object-rest (member k j ms) e = absurd (cc)
-
--- a value of one token is flat
-one-token : (j : Json) (t : Token) → json_tokens j ≡ t ∷ [] → IsFlat j
-one-token null t e = (tt, refl)
-one-token (boolean b) t e = (tt, refl)
-one-token (number s) t e = (tt, refl)
-one-token (string s) t e = (tt, refl)
-one-token (array js) t e = absurd (array-rest js (rest-none e))
-one-token (object ms) t e = absurd (object-rest ms (rest-none e))
+nothing_read whole m none = record { front = []; is = refl; values = λ key. sym (none key); new = tt; plain = tt }
 
 -- a choice by a test
 chosen : (b : Bool) (j : Json) (o x : Option Json) → (b ≡ true → x ≡ Some j) → (b ≡ false → x ≡ o) → cond b (Some j) o ≡ x
-chosen true j o x then otherwise = sym (then refl)
-chosen false j o x then otherwise = sym (otherwise refl)
+chosen true j o x on_true on_false = sym (on_true refl)
+chosen false j o x on_true on_false = sym (on_false refl)
 
-pub one_more : (whole : List Token) (old new : ExchangeMembers) (key : List ℕ) (t : Token) (rest : List Token) → IsReadSoFar whole old (Token.key key ∷ t ∷ rest) → IsAdded old key t new → IsReadSoFar whole new rest
-one_more whole old new key t rest s a =
-    let v = a.filled.value in
-    record {
-      front = (key, v) ∷ s.front;
-      is = s.is ∙ ap (λ (ts : List Token). tokens_before s.front (Token.key key ∷ (ts ++ rest))) (sym a.filled.spelled);
-      values = λ other. chosen (bytes_eq key other) v (value_in other s.front) (value_under new other)
-          (λ same. subst (λ (k : List ℕ). value_under new k ≡ Some v) ((bytes_eq-Decides key other).0 same) a.filled.full)
-          (λ apart. a.kept other apart ∙ sym (s.values other));
-      new = (s.values key ∙ a.filled.empty, s.new);
-      flat = (one-token v t a.filled.spelled, s.flat);
-    }
+one-more : (whole : List Token) (old new : ExchangeMembers) (key : List ℕ) (v : Json) (rest : List Token) → IsReadSoFar whole old (Token.key key ∷ (json_tokens v ++ rest)) → IsPlainValue v → IsAdded old key v new → IsReadSoFar whole new rest
+one-more whole old new key v rest s p a = record {
+  front = (key, v) ∷ s.front;
+  is = s.is;
+  values = λ other. chosen (bytes_eq key other) v (value_in other s.front) (value_under new other)
+      (λ same. subst (λ (k : List ℕ). value_under new k ≡ Some v) ((bytes_eq-Decides key other).0 same) a.filled.1)
+      (λ apart. a.kept other apart ∙ sym (s.values other));
+  new = (s.values key ∙ a.filled.0, s.new);
+  plain = (p, s.plain);
+}
 
--- ---- what a reader gives
+-- ---- the text of a member
 
-parts : {A : Type 0} (p q : A × List Token) → Some p ≡ Some q → (p.0 ≡ q.0) × (p.1 ≡ q.1)
-parts p q e =
-    let same : p ≡ q = cc in
-    (ap (λ r. r.0) same, ap (λ r. r.1) same)
+blank-byte : (b : ℕ) (bs : List ℕ) → list_all is_blank (b ∷ bs) ≡ true → (b ≡ 32) ⊎ (b ≡ 9)
+blank-byte b bs h =
+    let first : is_blank b ≡ true = search rules in
+    elim (or_cases (b == 32) (b == 9) first) [ inl e ↦ inl ((Decides-eqb b 32).0 e) | inr e ↦ inr ((Decides-eqb b 9).0 e) ]
 
-key-first : (ts : List Token) (k : List ℕ) (rest : List Token) → read_key ts ≡ Some (Some k, rest) → ts ≡ Token.key k ∷ rest
-key-first [] k rest e = absurd (cc)
-key-first (Token.begin_object ∷ ts) k rest e = absurd (cc)
-key-first (Token.end_object ∷ ts) k rest e =
-    let apart : None ≡ Some k = (parts (None, ts) (Some k, rest) e).0 in
-    absurd (cc)
-key-first (Token.begin_array ∷ ts) k rest e = absurd (cc)
-key-first (Token.end_array ∷ ts) k rest e = absurd (cc)
-key-first (Token.key s ∷ ts) k rest e =
-    let named : Some s ≡ Some k = (parts (Some s, ts) (Some k, rest) e).0 in
-    let behind : ts ≡ rest = (parts (Some s, ts) (Some k, rest) e).1 in
-    cc
-key-first (Token.string s ∷ ts) k rest e = absurd (cc)
-key-first (Token.number s ∷ ts) k rest e = absurd (cc)
-key-first (Token.boolean b ∷ ts) k rest e = absurd (cc)
-key-first (Token.null ∷ ts) k rest e = absurd (cc)
-key-first (Token.bad ∷ ts) k rest e = absurd (cc)
+blank-rest : (b : ℕ) (bs : List ℕ) → list_all is_blank (b ∷ bs) ≡ true → list_all is_blank bs ≡ true
+blank-rest b bs h = search rules
 
-end-first : (ts rest : List Token) → read_key ts ≡ Some (None, rest) → ts ≡ Token.end_object ∷ rest
-end-first [] rest e = absurd (cc)
-end-first (Token.begin_object ∷ ts) rest e = absurd (cc)
-end-first (Token.end_object ∷ ts) rest e =
-    let behind : ts ≡ rest = (parts {A = Option (List ℕ)} (None, ts) (None, rest) e).1 in
-    cc
-end-first (Token.begin_array ∷ ts) rest e = absurd (cc)
-end-first (Token.end_array ∷ ts) rest e = absurd (cc)
-end-first (Token.key s ∷ ts) rest e =
-    let apart : Some s ≡ None = (parts (Some s, ts) (None, rest) e).0 in
-    absurd (cc)
-end-first (Token.string s ∷ ts) rest e = absurd (cc)
-end-first (Token.number s ∷ ts) rest e = absurd (cc)
-end-first (Token.boolean b ∷ ts) rest e = absurd (cc)
-end-first (Token.null ∷ ts) rest e = absurd (cc)
-end-first (Token.bad ∷ ts) rest e = absurd (cc)
+lex-first : (b : ℕ) (r : List ℕ) → (b ≡ 32) ⊎ (b ≡ 9) → lex between (b ∷ r) ≡ lex between r
+unfolding lex
+lex-first b r (inl e) = subst (λ (x : ℕ). lex between (x ∷ r) ≡ lex between r) (sym e) refl
+lex-first b r (inr e) = subst (λ (x : ℕ). lex between (x ∷ r) ≡ lex between r) (sym e) refl
 
--- a key and its value come first
-pub member_first : (ts : List Token) (k : Option (Bor (List ℕ))) (key : Bor (List ℕ)) (t : Token) (middle rest : List Token) → read_key ts ≡ Some (option_map (λ s. s.now) k, middle) → k ≡ Some key → middle ≡ t ∷ rest
-    → ts ≡ Token.key key.now ∷ t ∷ rest
-member_first ts k key t middle rest read is next =
-    let named : read_key ts ≡ Some (Some key.now, middle) = subst (λ (x : Option (Bor (List ℕ))). read_key ts ≡ Some (option_map (λ s. s.now) x, middle)) is read in
-    key-first ts key.now middle named ∙ ap (λ (l : List Token). Token.key key.now ∷ l) next
+lex-blanks : (g r : List ℕ) → list_all is_blank g ≡ true → lex between (g ++ r) ≡ lex between r
+lex-blanks [] r h = refl
+lex-blanks (b ∷ g) r h = lex-first b (g ++ r) (blank-byte b g h) ∙ lex-blanks g r (blank-rest b g h)
 
--- the end of the object comes first
-pub end_first : (ts : List Token) (k : Option (Bor (List ℕ))) (rest : List Token) → read_key ts ≡ Some (option_map (λ s. s.now) k, rest) → k ≡ None → ts ≡ Token.end_object ∷ rest
-end_first ts k rest read is =
-    end-first ts rest (subst (λ (x : Option (Bor (List ℕ))). read_key ts ≡ Some (option_map (λ s. s.now) x, rest)) is read)
+skips-lex : (bytes rest : List ℕ) → SkipsBlanks bytes rest → lex between bytes ≡ lex between rest
+skips-lex bytes rest s = ap (λ (l : List ℕ). lex between l) s.is ∙ lex-blanks s.blanks rest s.blank
+
+blank-ends : (b : ℕ) (r : List ℕ) → (b ≡ 32) ⊎ (b ≡ 9) → ends_word (b ∷ r) ≡ true
+blank-ends b r (inl e) = subst (λ (x : ℕ). ends_word (x ∷ r) ≡ true) (sym e) refl
+blank-ends b r (inr e) = subst (λ (x : ℕ). ends_word (x ∷ r) ≡ true) (sym e) refl
+
+blanks-end : (g r : List ℕ) → list_all is_blank g ≡ true → ends_word r ≡ true → ends_word (g ++ r) ≡ true
+blanks-end [] r h e = e
+blanks-end (b ∷ g) r h e = blank-ends b (g ++ r) (blank-byte b g h)
+
+skips-end : (bytes rest : List ℕ) → SkipsBlanks bytes rest → ends_word rest ≡ true → ends_word bytes ≡ true
+skips-end bytes rest s e = subst (λ (l : List ℕ). ends_word l ≡ true) (sym s.is) (blanks-end s.blanks rest s.blank e)
+
+lex-quoted : (s r : List ℕ) → all_plain s ≡ true → lex between (34 ∷ (s ++ 34 ∷ r)) ≡ token (Token.string s) ∷ lex between r
+unfolding lex
+lex-quoted s r h =
+    ap₂ (λ (o : Option (List ℕ)) (l : List Lexeme). token (string_token o) ∷ l)
+    (subst (λ (x : List ℕ). within.content within.plain (x ++ 34 ∷ r) ≡ Some s) (escape_plain s h) (content-escape s r))
+    (subst (λ (x : List ℕ). lex in_string (x ++ 34 ∷ r) ≡ lex between r) (escape_plain s h) (lex-escape s r))
+
+plain-key : (k : MemberKey) → all_plain (key_text k) ≡ true
+plain-key member_key.Do = refl
+plain-key member_key.From = refl
+plain-key member_key.Id = refl
+plain-key member_key.Message = refl
+plain-key member_key.Tag = refl
+plain-key member_key.To = refl
+
+lex-colon : (r : List ℕ) → lex between (58 ∷ r) ≡ colon ∷ lex between r
+unfolding lex
+lex-colon r = refl
+
+-- what may be behind a value
+record EndsValue (r : List ℕ) : Type 0 where
+  word : ends_word r ≡ true
+  no_colon : begins_colon (lex between r) ≡ false
+
+comma-ends : (r : List ℕ) → EndsValue (44 ∷ r)
+unfolding lex
+comma-ends r = record { word = refl; no_colon = refl }
+
+brace-ends : (r : List ℕ) → EndsValue (125 ∷ r)
+unfolding lex
+brace-ends r = record { word = refl; no_colon = refl }
+
+skips-ends : (bytes rest : List ℕ) → SkipsBlanks bytes rest → EndsValue rest → EndsValue bytes
+skips-ends bytes rest s e = record {
+  word = skips-end bytes rest s e.word;
+  no_colon = ap begins_colon (skips-lex bytes rest s) ∙ e.no_colon;
+}
+
+punctuate-key : (p : Place) (k : List ℕ) (ls : List Lexeme) → may_begin p ≡ true → punctuate p (token (Token.string k) ∷ colon ∷ ls) ≡ Token.key k ∷ punctuate fresh ls
+unfolding punctuate
+punctuate-key fresh k ls h = refl
+punctuate-key after_value k ls h = absurd (cc)
+punctuate-key after_comma k ls h = refl
+punctuate-key after_key k ls h = absurd (cc)
+
+punctuate-string : (s : List ℕ) (ls : List Lexeme) → begins_colon ls ≡ false → punctuate fresh (token (Token.string s) ∷ ls) ≡ Token.string s ∷ punctuate after_value ls
+unfolding punctuate
+punctuate-string s ls h = rw h refl
+
+punctuate-number : (s : List ℕ) (ls : List Lexeme) → punctuate fresh (token (Token.number s) ∷ ls) ≡ Token.number s ∷ punctuate after_value ls
+unfolding punctuate
+punctuate-number s ls = refl
+
+value-tokens : (text : List ℕ) (v : IdValue) → IsIdValue true text v → EndsValue v.rest.now → punctuate fresh (lex between text) ≡ json_tokens (value_of v) ++ punctuate after_value (lex between v.rest.now)
+value-tokens text v (inl n) e =
+    ap (λ (l : List ℕ). punctuate fresh (lex between l)) n.is
+    ∙ ap (punctuate fresh) (lex-number v.text.now v.rest.now n.number e.word)
+    ∙ punctuate-number v.text.now (lex between v.rest.now)
+    ∙ subst (λ (b : Bool). Token.number v.text.now ∷ punctuate after_value (lex between v.rest.now) ≡ json_tokens (if b then string v.text.now else number v.text.now) ++ punctuate after_value (lex between v.rest.now)) (sym n.unquoted) refl
+value-tokens text v (inr n) e =
+    ap (λ (l : List ℕ). punctuate fresh (lex between l)) n.is
+    ∙ ap (punctuate fresh) (lex-quoted v.text.now v.rest.now n.plain)
+    ∙ punctuate-string v.text.now (lex between v.rest.now) e.no_colon
+    ∙ subst (λ (b : Bool). Token.string v.text.now ∷ punctuate after_value (lex between v.rest.now) ≡ json_tokens (if b then string v.text.now else number v.text.now) ++ punctuate after_value (lex between v.rest.now)) (sym n.quoted) refl
+
+plain-value : (text : List ℕ) (v : IdValue) → IsIdValue true text v → IsPlainValue (value_of v)
+plain-value text v (inl n) = subst (λ (b : Bool). IsPlainValue (if b then string v.text.now else number v.text.now)) (sym n.unquoted) tt
+plain-value text v (inr n) = subst (λ (b : Bool). IsPlainValue (if b then string v.text.now else number v.text.now)) (sym n.quoted) (n.plain, n.some)
+
+member-tokens : (p : Place) (bytes : List ℕ) (m : Member) (behind : List ℕ) → may_begin p ≡ true → IsMember bytes m → SkipsBlanks m.value.rest.now behind → EndsValue behind
+    → punctuate p (lex between bytes) ≡ Token.key (key_text m.key) ∷ (json_tokens (value_of m.value) ++ punctuate after_value (lex between behind))
+member-tokens p bytes m behind begins h skips ends =
+    let key = key_text m.key in
+    let named : lex between bytes ≡ token (Token.string key) ∷ colon ∷ lex between h.value_text =
+    skips-lex bytes (34 ∷ (key ++ 34 ∷ h.behind_key)) h.key
+    ∙ lex-quoted key h.behind_key (plain-key m.key)
+    ∙ ap (λ (l : List Lexeme). token (Token.string key) ∷ l)
+    (skips-lex h.behind_key (58 ∷ h.behind_colon) h.colon ∙ lex-colon h.behind_colon ∙ ap (λ (l : List Lexeme). colon ∷ l) (skips-lex h.behind_colon h.value_text h.value)) in
+    ap (punctuate p) named
+    ∙ punctuate-key p key (lex between h.value_text) begins
+    ∙ ap (λ (l : List Token). Token.key key ∷ l)
+    (value-tokens h.value_text m.value h.is (skips-ends m.value.rest.now behind skips ends)
+    ∙ ap (λ (l : List Lexeme). json_tokens (value_of m.value) ++ punctuate after_value l) (skips-lex m.value.rest.now behind skips))
+
+-- ---- from member to member
+
+-- the members in front of a text are read
+pub record AreReadTo (whole : List Token) (m : ExchangeMembers) (text : List ℕ) : Type 0 where
+  place : Place
+  begins : may_begin place ≡ true
+  read : IsReadSoFar whole m (punctuate place (lex between text))
+
+pub none_read : (text : List ℕ) (m : ExchangeMembers) → ((key : List ℕ) → value_under m key ≡ None) → AreReadTo (punctuate fresh (lex between text)) m text
+none_read text m none = record { place = fresh; begins = refl; read = nothing_read (punctuate fresh (lex between text)) m none }
+
+read-member : (whole : List Token) (old new : ExchangeMembers) (bytes : List ℕ) (m : Member) (behind : List ℕ) → AreReadTo whole old bytes → IsMember bytes m → IsAdded old (key_text m.key) (value_of m.value) new → SkipsBlanks m.value.rest.now behind → EndsValue behind
+    → IsReadSoFar whole new (punctuate after_value (lex between behind))
+read-member whole old new bytes m behind r h a skips ends =
+    let is = member-tokens r.place bytes m behind r.begins h skips ends in
+    one-more whole old new (key_text m.key) (value_of m.value) (punctuate after_value (lex between behind))
+    (subst (λ (l : List Token). IsReadSoFar whole old l) is r.read) (plain-value h.value_text m.value h.is) a
+
+after-comma : (r : List ℕ) → punctuate after_value (lex between (44 ∷ r)) ≡ punctuate after_comma (lex between r)
+unfolding lex punctuate
+after-comma r = refl
+
+after-brace : (r : List ℕ) → punctuate after_value (lex between (125 ∷ r)) ≡ Token.end_object ∷ punctuate after_value (lex between r)
+unfolding lex punctuate
+after-brace r = refl
+
+nothing-left : punctuate after_value (lex between []) ≡ []
+unfolding lex punctuate
+nothing-left = refl
+
+-- one more member, and a comma
+pub next_read : (whole : List Token) (old new : ExchangeMembers) (bytes : List ℕ) (m : Member) (behind next : List ℕ) → AreReadTo whole old bytes → IsMember bytes m → IsAdded old (key_text m.key) (value_of m.value) new → SkipsBlanks m.value.rest.now behind → behind ≡ 44 ∷ next
+    → AreReadTo whole new next
+next_read whole old new bytes m behind next r h a skips is =
+    let here = subst (λ (l : List ℕ). SkipsBlanks m.value.rest.now l) is skips in
+    let read = read-member whole old new bytes m (44 ∷ next) r h a here (comma-ends next) in
+    record { place = after_comma; begins = refl; read = subst (λ (l : List Token). IsReadSoFar whole new l) (after-comma next) read }
+
+-- the last member, and the end of the object
+last-read : (whole : List Token) (old new : ExchangeMembers) (bytes : List ℕ) (m : Member) (behind : List ℕ) → AreReadTo whole old bytes → IsMember bytes m → IsAdded old (key_text m.key) (value_of m.value) new → SkipsBlanks m.value.rest.now behind → IsObjectEnd behind
+    → IsReadSoFar whole new (Token.end_object ∷ [])
+last-read whole old new bytes m behind r h a skips (rest, is, blanks) =
+    let here = subst (λ (l : List ℕ). SkipsBlanks m.value.rest.now l) is skips in
+    let read = read-member whole old new bytes m (125 ∷ rest) r h a here (brace-ends rest) in
+    let ended = after-brace rest ∙ ap (λ (l : List Lexeme). Token.end_object ∷ punctuate after_value l) (skips-lex rest [] blanks) ∙ ap (λ (l : List Token). Token.end_object ∷ l) nothing-left in
+    subst (λ (l : List Token). IsReadSoFar whole new l) ended read
 
 -- ---- all members
 
@@ -218,26 +306,69 @@ distinct-keys (m ∷ front) ms new to distinct =
 none-apart : AreDistinct []
 none-apart i j d lt within = absurd (omega (arith, within))
 
-unique-values : (front : List (List ℕ × Json)) (ms : Members) → AreFlat front → MembersHaveUniqueKeys ms → MembersHaveUniqueKeys (members_before front ms)
-unique-values [] ms flat unique = unique
-unique-values (m ∷ front) ms flat unique = unique-values front (member m.0 m.1 ms) flat.1 (flat.0.0, unique)
+unique-value : (j : Json) → IsPlainValue j → HasUniqueKeys j
+unique-value null p = absurd p
+unique-value (boolean b) p = absurd p
+unique-value (number s) p = tt
+unique-value (string s) p = tt
+unique-value (array js) p = absurd p
+unique-value (object ms) p = absurd p
 
-flat-members : (front : List (List ℕ × Json)) (ms : Members) → AreFlat front → members_depth ms ≤ 0 → members_depth (members_before front ms) ≤ 0
-flat-members [] ms flat h = h
-flat-members (m ∷ front) ms flat h =
-    let here : depth m.1 ≡ 0 = flat.0.1 in
-    flat-members front (member m.0 m.1 ms) flat.1 (omega arith)
+flat-value : (j : Json) → IsPlainValue j → depth j ≡ 0
+flat-value null p = absurd p
+flat-value (boolean b) p = absurd p
+flat-value (number s) p = refl
+flat-value (string s) p = refl
+flat-value (array js) p = absurd p
+flat-value (object ms) p = absurd p
 
-pub all_read : (whole : List Token) (m : ExchangeMembers) (rest : List Token) → IsReadSoFar whole m (Token.end_object ∷ rest) → BeginsWithMembers whole m rest
-all_read whole m rest s =
-    let shallow : members_depth (members_before s.front no_members) ≤ 0 = flat-members s.front no_members s.flat (omega arith) in (
-      members_before s.front no_members,
-      s.is ∙ tokens-are s.front no_members rest,
+unique-values : (front : List (List ℕ × Json)) (ms : Members) → ArePlain front → MembersHaveUniqueKeys ms → MembersHaveUniqueKeys (members_before front ms)
+unique-values [] ms plain unique = unique
+unique-values (m ∷ front) ms plain unique = unique-values front (member m.0 m.1 ms) plain.1 (unique-value m.1 plain.0, unique)
+
+flat-members : (front : List (List ℕ × Json)) (ms : Members) → ArePlain front → members_depth ms ≤ 0 → members_depth (members_before front ms) ≤ 0
+flat-members [] ms plain h = h
+flat-members (m ∷ front) ms plain h =
+    let here : depth m.1 ≡ 0 = flat-value m.1 plain.0 in
+    flat-members front (member m.0 m.1 ms) plain.1 (omega arith)
+
+plain-values : (key : List ℕ) (front : List (List ℕ × Json)) → ArePlain front → IfSome (value_in key front) IsPlainValue
+plain-values key [] plain = tt
+plain-values key (m ∷ front) plain = either (bytes_eq m.0 key) (plain-values key front plain.1)
+  where
+    either : (b : Bool) → IfSome (value_in key front) IsPlainValue → IfSome (cond b (Some m.1) (value_in key front)) IsPlainValue
+    either true rest = plain.0
+    either false rest = rest
+
+has-members : (whole : List Token) (m : ExchangeMembers) → IsReadSoFar whole m (Token.end_object ∷ []) → (ms : Members) × (whole ≡ members_tokens ms) × HasMembers (object ms) m
+has-members whole m s =
+    let ms = members_before s.front no_members in
+    let shallow : members_depth (members_before s.front no_members) ≤ 0 = flat-members s.front no_members s.plain (omega arith) in (
+      ms,
+      s.is ∙ tokens-are s.front no_members [] ∙ append-nil (members_tokens ms),
       record {
         values = λ key. values-are key s.front no_members ∙ s.values key;
-        unique = (distinct-keys s.front no_members s.new tt none-apart, unique-values s.front no_members s.flat tt);
+        plain = λ key. subst (λ (o : Option Json). IfSome o IsPlainValue) (s.values key) (plain-values key s.front s.plain);
+        unique = (distinct-keys s.front no_members s.new tt none-apart, unique-values s.front no_members s.plain tt);
         shallow = omega arith;
       },
+    )
+
+after-open : (r : List ℕ) → punctuate fresh (lex between (123 ∷ r)) ≡ Token.begin_object ∷ punctuate fresh (lex between r)
+unfolding lex punctuate
+after-open r = refl
+
+-- all members of an object are read
+pub all_read : (line start behind : List ℕ) (old new : ExchangeMembers) (bytes : List ℕ) (m : Member) (inside : List ℕ) → SkipsBlanks line start → start ≡ 123 ∷ inside → AreReadTo (punctuate fresh (lex between inside)) old bytes → IsMember bytes m
+    → IsAdded old (key_text m.key) (value_of m.value) new → SkipsBlanks m.value.rest.now behind → IsObjectEnd behind → SpellsMembers line new
+all_read line start behind old new bytes m inside skips is r h a blanks ended =
+    let has = has-members (punctuate fresh (lex between inside)) new (last-read (punctuate fresh (lex between inside)) old new bytes m behind r h a blanks ended) in (
+      object has.0,
+      ap (punctuate fresh) (skips-lex line start skips)
+          ∙ ap (λ (l : List ℕ). punctuate fresh (lex between l)) is
+          ∙ after-open inside
+          ∙ ap (λ (l : List Token). Token.begin_object ∷ l) has.1,
+      has.2,
     )
 
 -- ---- what the object stands for
@@ -286,28 +417,49 @@ word-body names j w i f t m (inr e) h =
     subst (λ (x : List ℕ). body_of_word names false x j ≡ Some (as_line (spaced (x ∷ i ∷ f ∷ t ∷ m ∷ [])))) (sym e)
     (line-by (codes "recv") (fields_under names j (codes "id" ∷ codes "from" ∷ codes "to" ∷ codes "message" ∷ [])) i f t m (four-fields names j i f t m h))
 
-word-of : (w : List ℕ) → is_exchange w ≡ true → (w ≡ codes "send") ⊎ (w ≡ codes "recv")
-word-of w h = elim (or_cases (bytes_eq w (codes "send")) (bytes_eq w (codes "recv")) h) [
-  | inl e ↦ inl ((bytes_eq-Decides w (codes "send")).0 e)
-  | inr e ↦ inr ((bytes_eq-Decides w (codes "recv")).0 e)
-]
-
 -- an object with the members of an exchange stands for its line, with its tag
 pub spelled_exchange : (o : ObjectOptions) (j : Json) (w i f t m : List ℕ) (shown : Option (List ℕ)) → string_under (codes "do") j ≡ Some w → is_exchange w ≡ true → HasFields o.names j i f t m → tag_of o.tags j ≡ Some shown
     → spelled o j ≡ Some (record { tag = shown; body = as_line (spaced (w ∷ i ∷ f ∷ t ∷ m ∷ [])) })
 spelled_exchange o j w i f t m shown word exchange fields tag =
     let body : body_or_bad o.names j ≡ as_line (spaced (w ∷ i ∷ f ∷ t ∷ m ∷ [])) =
     ap (λ (b : Option Spelling). unwrap_or b as_bad)
-    (body-by o.names j w (Some (as_line (spaced (w ∷ i ∷ f ∷ t ∷ m ∷ [])))) word fields.json (word-body o.names j w i f t m (word-of w exchange) fields)) in
+    (body-by o.names j w (Some (as_line (spaced (w ∷ i ∷ f ∷ t ∷ m ∷ [])))) word fields.json (word-body o.names j w i f t m (word_of w exchange) fields)) in
     ap (λ (x : Option (Option (List ℕ))). option_map (λ (g : Option (List ℕ)). record { tag = g; body = body_or_bad o.names j }) x) tag
     ∙ ap (λ (b : Spelling). Some (record { tag = shown; body = b })) body
 
--- a text as it was
-pub text_of_value : (text : Option (Bor (List ℕ))) → option_and_then as_str (option_map text_value text) ≡ option_map (λ t. t.now) text
-text_of_value None = refl
-text_of_value (Some t) = refl
+-- ---- the fields and the tag
 
--- a line whose tokens are those of such an object stands for the exchange
-pub object_line : (o : ObjectOptions) (line : List ℕ) (m : ExchangeMembers) (r : Option ExchangeObject) → IsUtf8 line → SpellsMembers (tokens line) m → IfSome r (StandsForExchange o m) → IfSome r (IsExchangeObject o line)
-object_line o line m None utf8 spells stands = tt
-object_line o line m (Some e) utf8 (j, is, has) stands = (utf8, (j, document_of line j is has.shallow, has.unique, stands j has))
+pub text_field_of : (text : Option (Bor (List ℕ))) (f : Bor (List ℕ)) → IfSome (option_map text_value text) IsPlainValue → text ≡ Some f → option_and_then text_field (option_map text_value text) ≡ Some f.now
+text_field_of text f p is =
+    let here : (all_plain f.now ≡ true) × (0 < length f.now) = subst (λ (t : Option (Bor (List ℕ))). IfSome (option_map text_value t) IsPlainValue) is p in
+    ap (λ (t : Option (Bor (List ℕ))). option_and_then text_field (option_map text_value t)) is ∙ field (plain_field f.now here.0 here.1)
+  where
+    field : is_field f.now ≡ true → text_field (string f.now) ≡ Some f.now
+    field h = rw h refl
+
+id-value : (names : Bool) (v : IdValue) (b : Bool) → b ≡ v.quoted → IsPlainValue (if b then string v.text.now else number v.text.now) → not b || names ≡ true → id_field names (if b then string v.text.now else number v.text.now) ≡ Some v.text.now
+id-value names v false is p h = refl
+id-value true v true is p h = rw (plain_field v.text.now p.0 p.1) refl
+id-value false v true is p h = absurd (cc)
+
+pub id_field_of : (names : Bool) (id : Option IdValue) (v : IdValue) → IfSome (option_map value_of id) IsPlainValue → id ≡ Some v → not v.quoted || names ≡ true → option_and_then (id_field names) (option_map value_of id) ≡ Some v.text.now
+id_field_of names id v p is h =
+    let here : IsPlainValue (value_of v) = subst (λ (t : Option IdValue). IfSome (option_map value_of t) IsPlainValue) is p in
+    ap (λ (t : Option IdValue). option_and_then (id_field names) (option_map value_of t)) is ∙ id-value names v v.quoted refl here h
+
+tag-text : (t s : List ℕ) → IsPlainValue (string t) → s ≡ t → length s ≤ 64 → tag_in (Some (string t)) ≡ Some (Some s)
+tag-text t s p e short =
+    let few : length t ≤ 64 = subst (λ (l : List ℕ). length l ≤ 64) e short in
+    rw (short_tag t p.0 p.1 few) (ap (λ (l : List ℕ). Some (Some l)) (sym e))
+
+pub tag_shown : (tags : Bool) (text shown : Option (Bor (List ℕ))) → IfSome (option_map text_value text) IsPlainValue → IsShownTag tags text shown → (if tags then tag_in (option_map text_value text) else Some None) ≡ Some (option_map (λ t. t.now) shown)
+tag_shown false text shown p h = ap Some (sym h.0)
+tag_shown true None shown p h = ap Some (sym h.0)
+tag_shown true (Some t) None p h = absurd (cc h.0)
+tag_shown true (Some t) (Some s) p h =
+    let same : s.now ≡ t.now = cc h.0 in
+    tag-text t.now s.now p same h.1
+
+-- a line that spells such members stands for the exchange
+pub object_line : (o : ObjectOptions) (line : List ℕ) (m : ExchangeMembers) (e : ExchangeObject) → IsUtf8 line → SpellsMembers line m → StandsForExchange o m e → IsExchangeObject o line e
+object_line o line m e utf8 (j, is, has) stands = (utf8, (j, document_of line j is has.shallow, has.unique, stands j has))

@@ -59,12 +59,12 @@ plain-rest : (b : ℕ) (bs : List ℕ) → all_plain (b ∷ bs) ≡ true → all
 plain-rest b bs h = search rules
 
 -- no escapes
-escape-plain : (s : List ℕ) → all_plain s ≡ true → escape s ≡ s
-escape-plain [] h = refl
-escape-plain (b ∷ bs) h =
+pub escape_plain : (s : List ℕ) → all_plain s ≡ true → escape s ≡ s
+escape_plain [] h = refl
+escape_plain (b ∷ bs) h =
     let p = plain-byte b (plain-first b bs h) in
     ap (λ (e : List ℕ). e ++ escape bs) (escape_byte_plain b p.no_quote p.no_backslash (omega (arith, p.above)))
-    ∙ ap (λ (e : List ℕ). b ∷ e) (escape-plain bs (plain-rest b bs h))
+    ∙ ap (λ (e : List ℕ). b ∷ e) (escape_plain bs (plain-rest b bs h))
 
 no-blanks : (s : List ℕ) → all_plain s ≡ true → has_no_blank s ≡ true
 no-blanks [] h = refl
@@ -76,9 +76,9 @@ some-bytes : (b : ℕ) (bs : List ℕ) → has_bytes (b ∷ bs) ≡ true
 some-bytes b bs = grind (arith, nat_tests)
 
 -- plain bytes are a field, if there are some
-plain-field : (s : List ℕ) → all_plain s ≡ true → 0 < length s → is_field s ≡ true
-plain-field [] h some = absurd (omega (arith, some))
-plain-field (b ∷ bs) h some = rw (some-bytes b bs) (no-blanks (b ∷ bs) h)
+pub plain_field : (s : List ℕ) → all_plain s ≡ true → 0 < length s → is_field s ≡ true
+plain_field [] h some = absurd (omega (arith, some))
+plain_field (b ∷ bs) h some = rw (some-bytes b bs) (no-blanks (b ∷ bs) h)
 
 all-visible : (s : List ℕ) → all_plain s ≡ true → all_visible s ≡ true
 all-visible [] h = refl
@@ -90,13 +90,13 @@ all-visible (b ∷ bs) h =
 
 key-text : (k rest : List ℕ) → all_plain k ≡ true → (quoted k ++ 58 ∷ []) ++ rest ≡ 34 ∷ (k ++ 34 ∷ 58 ∷ rest)
 key-text k rest h =
-    ap (λ (e : List ℕ). 34 ∷ (((e ++ 34 ∷ []) ++ 58 ∷ []) ++ rest)) (escape-plain k h)
+    ap (λ (e : List ℕ). 34 ∷ (((e ++ 34 ∷ []) ++ 58 ∷ []) ++ rest)) (escape_plain k h)
     ∙ ap (λ (x : List ℕ). 34 ∷ x) (append_assoc (k ++ 34 ∷ []) (58 ∷ []) rest ∙ append_assoc k (34 ∷ []) (58 ∷ rest))
 
 string-text : (s : List ℕ) (ts : List Token) → all_plain s ≡ true → print_from false (Token.string s ∷ ts) ≡ 34 ∷ (s ++ 34 ∷ print_from true ts)
 unfolding print_from
 string-text s ts h =
-    ap (λ (e : List ℕ). 34 ∷ ((e ++ 34 ∷ []) ++ print_from true ts)) (escape-plain s h)
+    ap (λ (e : List ℕ). 34 ∷ ((e ++ 34 ∷ []) ++ print_from true ts)) (escape_plain s h)
     ∙ ap (λ (x : List ℕ). 34 ∷ x) (append_assoc s (34 ∷ []) (print_from true ts))
 
 key-first : (k : List ℕ) (ts : List Token) → all_plain k ≡ true → print_from false (Token.key k ∷ ts) ≡ 34 ∷ (k ++ 34 ∷ 58 ∷ print_from false ts)
@@ -233,9 +233,9 @@ unique false w f i m (Some g) t = (tagged-apart, (tt, (tt, (tt, (tt, (tt, (tt, t
 
 -- ---- what it stands for
 
-short-tag : (g : List ℕ) → all_plain g ≡ true → 0 < length g → length g ≤ 64 → is_tag g ≡ true
-short-tag [] h some short = absurd (omega (arith, some))
-short-tag (b ∷ bs) h some short = rw (all-visible (b ∷ bs) h) (within (length bs) short)
+pub short_tag : (g : List ℕ) → all_plain g ≡ true → 0 < length g → length g ≤ 64 → is_tag g ≡ true
+short_tag [] h some short = absurd (omega (arith, some))
+short_tag (b ∷ bs) h some short = rw (all-visible (b ∷ bs) h) (within (length bs) short)
   where
     within : (n : ℕ) → suc n ≤ 64 → nat_lt 0 (suc n) && nat_le (suc n) 64 && true ≡ true
     within n h = grind (arith, nat_tests)
@@ -245,15 +245,15 @@ body-send : (names quoted : Bool) (f i m : List ℕ) (tag : Option (List ℕ)) (
     → body_or_bad names (object (exchange-members (codes "send") f (id-json quoted i) m tag t)) ≡ as_line (spaced (codes "send" ∷ i ∷ f ∷ t ∷ m ∷ []))
 body-send names false f i m None t hf hm ht fits = rw (hf, hm, ht) refl
 body-send names false f i m (Some g) t hf hm ht fits = rw (hf, hm, ht) refl
-body-send names true f i m None t hf hm ht fits = rw (hf, hm, ht, fits.0, plain-field i fits.1 fits.2) refl
-body-send names true f i m (Some g) t hf hm ht fits = rw (hf, hm, ht, fits.0, plain-field i fits.1 fits.2) refl
+body-send names true f i m None t hf hm ht fits = rw (hf, hm, ht, fits.0, plain_field i fits.1 fits.2) refl
+body-send names true f i m (Some g) t hf hm ht fits = rw (hf, hm, ht, fits.0, plain_field i fits.1 fits.2) refl
 
 body-recv : (names quoted : Bool) (f i m : List ℕ) (tag : Option (List ℕ)) (t : List ℕ) → is_field f ≡ true → is_field m ≡ true → is_field t ≡ true → IdFits names quoted i
     → body_or_bad names (object (exchange-members (codes "recv") f (id-json quoted i) m tag t)) ≡ as_line (spaced (codes "recv" ∷ i ∷ f ∷ t ∷ m ∷ []))
 body-recv names false f i m None t hf hm ht fits = rw (hf, hm, ht) refl
 body-recv names false f i m (Some g) t hf hm ht fits = rw (hf, hm, ht) refl
-body-recv names true f i m None t hf hm ht fits = rw (hf, hm, ht, fits.0, plain-field i fits.1 fits.2) refl
-body-recv names true f i m (Some g) t hf hm ht fits = rw (hf, hm, ht, fits.0, plain-field i fits.1 fits.2) refl
+body-recv names true f i m None t hf hm ht fits = rw (hf, hm, ht, fits.0, plain_field i fits.1 fits.2) refl
+body-recv names true f i m (Some g) t hf hm ht fits = rw (hf, hm, ht, fits.0, plain_field i fits.1 fits.2) refl
 
 body-is : (names quoted : Bool) (w f i m : List ℕ) (tag : Option (List ℕ)) (t : List ℕ) → (w ≡ codes "send") ⊎ (w ≡ codes "recv") → is_field f ≡ true → is_field m ≡ true → is_field t ≡ true → IdFits names quoted i
     → body_or_bad names (object (exchange-members w f (id-json quoted i) m tag t)) ≡ as_line (spaced (w ∷ i ∷ f ∷ t ∷ m ∷ []))
@@ -265,12 +265,12 @@ body-is names quoted w f i m tag t (inr e) hf hm ht fits =
 tag-is : (tags : Bool) (w f : List ℕ) (id : Json) (m : List ℕ) (tag shown : Option (List ℕ)) (t : List ℕ) → TagFits tags tag shown → tag_of tags (object (exchange-members w f id m tag t)) ≡ Some shown
 tag-is true w f id m None shown t fits = ap Some (sym fits)
 tag-is false w f id m None shown t fits = ap Some (sym fits)
-tag-is true w f id m (Some g) shown t fits = rw (short-tag g fits.0 fits.1 fits.2) (ap Some (sym fits.3))
+tag-is true w f id m (Some g) shown t fits = rw (short_tag g fits.0 fits.1 fits.2) (ap Some (sym fits.3))
 tag-is false w f id m (Some g) shown t fits = ap Some (sym fits.3)
 
 -- the word of an exchange
-word-of : (w : List ℕ) → is_exchange w ≡ true → (w ≡ codes "send") ⊎ (w ≡ codes "recv")
-word-of w h = elim (or_cases (bytes_eq w (codes "send")) (bytes_eq w (codes "recv")) h) [
+pub word_of : (w : List ℕ) → is_exchange w ≡ true → (w ≡ codes "send") ⊎ (w ≡ codes "recv")
+word_of w h = elim (or_cases (bytes_eq w (codes "send")) (bytes_eq w (codes "recv")) h) [
   | inl e ↦ inl ((bytes_eq-Decides w (codes "send")).0 e)
   | inr e ↦ inr ((bytes_eq-Decides w (codes "recv")).0 e)
 ]
@@ -288,6 +288,6 @@ read_exchange o line w f quoted i m tag shown t utf8 is word hw hf hm ht id_fits
         ap document (is ∙ sym text) ∙ document-print j (has-numbers o.names quoted w f i m tag t id_fits) (shallow quoted w f i m tag t),
         unique quoted w f i m tag t,
         ap (λ (x : Option (Option (List ℕ))). option_map (λ (g : Option (List ℕ)). record { tag = g; body = body_or_bad o.names j }) x) (tag-is o.tags w f (id-json quoted i) m tag shown t tag_fits)
-            ∙ ap (λ (b : Spelling). Some (record { tag = shown; body = b })) (body-is o.names quoted w f i m tag t (word-of w word) (plain-field f hf.0 hf.1) (plain-field m hm.0 hm.1) (plain-field t ht.0 ht.1) id_fits),
+            ∙ ap (λ (b : Spelling). Some (record { tag = shown; body = b })) (body-is o.names quoted w f i m tag t (word_of w word) (plain_field f hf.0 hf.1) (plain_field m hm.0 hm.1) (plain_field t ht.0 ht.1) id_fits),
       ),
     )

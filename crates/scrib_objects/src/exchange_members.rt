@@ -1,37 +1,31 @@
-//! Exchanges as objects whose members come in any order, with any blanks and escapes. Each token is read once, and no tree
-//! of members is made.
+//! Exchanges as objects whose members come in any order, with any blanks, but without escapes and other members. They
+//! need no tree of members.
 
-ghost use Rattle.std.specs.Prelude.{◌≡◌, None, IfOk, IfSome, OnOk, Some, ℕ, List, option_map};
-ghost use Rattle.json.specs.Reads.{token_of};
+ghost use Rattle.std.specs.Prelude.{◌≡◌, ◌∷◌, ◌++◌, None, IfSome, OnSome, ℕ, List, not, ◌||◌, option_map, true};
 ghost use Rattle.scrib_objects.specs.ExchangeMembers as spec;
 ghost use Rattle.scrib_objects.specs.ExchangeObjects.{IsExchangeObject};
 
-use crate::exchange_object::{ExchangeObject, is_exchange};
-use crate::members::is_field;
+use crate::exchange_object::{ExchangeObject, IdValue, id_value, is_exchange};
+use crate::members::is_blank;
 use crate::object_options::ObjectOptions;
-use json::{Invalid, Reader, Scratch, Token};
-use scrib_labels::tag::is_tag;
+use scrib_labels::tag::MAX_TAG_BYTES;
 use simdutf8::basic::from_utf8;
 
-/// The members that an exchange may have, each as far as it is read.
+// The most members of an exchange.
+const MAX_MEMBERS: usize = 6;
+
+/// The members of an exchange that are read so far.
 #[derive(Clone, Copy)]
 pub(crate) struct ExchangeMembers<'a> {
-    pub(crate) word: Option<&'a str>,
-    pub(crate) from: Option<&'a str>,
-    pub(crate) id: Option<IdMember<'a>>,
-    pub(crate) message: Option<&'a str>,
-    pub(crate) tag: Option<&'a str>,
-    pub(crate) to: Option<&'a str>,
+    pub(crate) word: Option<&'a [u8]>,
+    pub(crate) from: Option<&'a [u8]>,
+    pub(crate) id: Option<IdValue<'a>>,
+    pub(crate) message: Option<&'a [u8]>,
+    pub(crate) tag: Option<&'a [u8]>,
+    pub(crate) to: Option<&'a [u8]>,
 }
 
-/// A conversation: its number, or in a string its name.
-#[derive(Clone, Copy)]
-pub(crate) enum IdMember<'a> {
-    Number(&'a str),
-    Name(&'a str),
-}
-
-/// The key of a member that an exchange may have.
+/// The key of a member of an exchange.
 #[derive(Clone, Copy)]
 pub(crate) enum MemberKey {
     Do,
@@ -42,56 +36,56 @@ pub(crate) enum MemberKey {
     To,
 }
 
-/// Returns the exchange that the object in the line stands for, where it has no other members. None of other lines, and
-/// where memory is refused.
+/// A key, and what is behind its quote.
+#[derive(Clone, Copy)]
+pub(crate) struct KeyText<'a> {
+    pub(crate) key: MemberKey,
+    pub(crate) rest: &'a [u8],
+}
+
+/// A member, and what is behind its value.
+#[derive(Clone, Copy)]
+pub(crate) struct Member<'a> {
+    pub(crate) key: MemberKey,
+    pub(crate) value: IdValue<'a>,
+}
+
+/// Returns the send or the reception that the object in the line stands for, where its members come in any order and
+/// with any blanks and tabs around them. None of other lines, some of which stand for an exchange: of those with
+/// escapes, and with members other than `do`, `from`, `id`, `message`, `tag` and `to`.
 #[inline(never)]
-pub(crate) fn any_exchange<'a>(
-    scratch: &'a mut Scratch,
-    options: ObjectOptions,
-    line: &'a [u8],
-) -> Option<ExchangeObject<'a>>
+pub fn exchange_in_any_order(options: ObjectOptions, line: &[u8]) -> Option<ExchangeObject<'_>>
     ensures { IfSome result (IsExchangeObject options line.now) }
 {
-    let Ok(text) = from_utf8(line) else {
+    let members = read_members(line)?;
+    let object = exchange_of(options, members)?;
+    let Ok(_) = from_utf8(line) else {
         return None;
     };
-    let Ok(mut reader) = Reader::new(text, scratch) else {
-        return None;
-    };
-    let Ok(members) = read_object(&mut reader) else {
-        return None;
-    };
-    exchange_of(options, members)
+    Some(object)
 }
 
-// Reads the object that all tokens are, where it has members of an exchange alone, each once at most.
+// The members of the object, each of which an exchange may have and comes once.
 #[inline(always)]
-fn read_object<'a>(reader: &mut Reader<'a>) -> Result<ExchangeMembers<'a>, Invalid>
-    ensures { IfOk result (spec.SpellsMembers reader.old) }
-{
-    let Some(Token::BeginObject) = reader.next() else {
-        return Err(Invalid);
-    };
-    let members = read_members(reader)?;
-    let None = reader.next() else {
-        return Err(Invalid);
-    };
-    Ok(members)
-}
-
-// Reads the members up to the end of their object.
-#[inline(always)]
-fn read_members<'a>(reader: &mut Reader<'a>) -> Result<ExchangeMembers<'a>, Invalid>
-    ensures { IfOk result (λ members. spec.BeginsWithMembers reader.old members reader.new) }
+fn read_members(line: &[u8]) -> Option<ExchangeMembers<'_>>
+    ensures { IfSome result (spec.SpellsMembers line.now) }
 {
     let mut members = no_members();
-    while let Some(key) = reader.next_key()? {
-        let Some(value) = reader.next() else {
-            return Err(Invalid);
+    let mut rest = behind_brace(after_blanks(line))?;
+    for _ in 0..MAX_MEMBERS {
+        let member = next_member(rest)?;
+        members.add(member)?;
+        let behind = after_blanks(member.value.rest);
+        let Some(next) = behind_comma(behind) else {
+            return if is_object_end(behind) {
+                Some(members)
+            } else {
+                None
+            };
         };
-        members.add(key, value)?;
+        rest = next;
     }
-    Ok(members)
+    None
 }
 
 // No member yet.
@@ -109,16 +103,25 @@ fn no_members<'a>() -> ExchangeMembers<'a>
     }
 }
 
+// The member that comes next.
+#[inline(always)]
+fn next_member(bytes: &[u8]) -> Option<Member<'_>>
+    ensures { IfSome result (spec.IsMember bytes.now) }
+{
+    let KeyText { key, rest } = member_key(after_blanks(bytes))?;
+    let behind = behind_colon(after_blanks(rest))?;
+    let value = id_value(true, after_blanks(behind))?;
+    Some(Member { key, value })
+}
+
 impl<'a> ExchangeMembers<'a> {
-    // Adds a member. An error where no exchange has its key, where the key comes again, or where the value is of another
-    // kind.
+    // Adds the member. None where its key comes again, or its value is of another kind.
     #[inline(always)]
-    fn add(&mut self, key: &str, value: Token<'a>) -> Result<(), Invalid>
-        ensures { OnOk result (spec.IsAdded self.old key.now (token_of value.entry) self.new) }
+    fn add(&mut self, member: Member<'a>) -> Option<()>
+        ensures { OnSome result (spec.IsAdded self.old (spec.key_text member.entry.key)
+            (spec.value_of member.entry.value) self.new) }
     {
-        let Some(key) = member_key(key.as_bytes()) else {
-            return Err(Invalid);
-        };
+        let Member { key, value } = member;
         match key {
             MemberKey::Do => fill_text(&mut self.word, value),
             MemberKey::From => fill_text(&mut self.from, value),
@@ -130,52 +133,112 @@ impl<'a> ExchangeMembers<'a> {
     }
 }
 
-// The key that the bytes are.
-#[inline(always)]
-fn member_key(bytes: &[u8]) -> Option<MemberKey>
-    ensures { IfSome result (λ key. bytes.now ≡ spec.key_text key) }
-{
-    match bytes {
-        [b'd', b'o'] => Some(MemberKey::Do),
-        [b'f', b'r', b'o', b'm'] => Some(MemberKey::From),
-        [b'i', b'd'] => Some(MemberKey::Id),
-        [b'm', b'e', b's', b's', b'a', b'g', b'e'] => Some(MemberKey::Message),
-        [b't', b'a', b'g'] => Some(MemberKey::Tag),
-        [b't', b'o'] => Some(MemberKey::To),
-        _ => None,
-    }
-}
-
 // Fills an empty place with a string.
 #[inline(always)]
-fn fill_text<'a>(place: &mut Option<&'a str>, value: Token<'a>) -> Result<(), Invalid>
-    ensures { OnOk result (spec.IsFilled (option_map spec.text_value place.old) (token_of value.entry)
+fn fill_text<'a>(place: &mut Option<&'a [u8]>, value: IdValue<'a>) -> Option<()>
+    ensures { OnSome result (spec.IsFilled (option_map spec.text_value place.old) (spec.value_of value.entry)
         (option_map spec.text_value place.new)) }
 {
-    let (None, Token::String(text)) = (*place, value) else {
-        return Err(Invalid);
-    };
-    *place = Some(text);
-    Ok(())
+    if place.is_some() || !value.quoted {
+        return None;
+    }
+    *place = Some(value.text);
+    Some(())
 }
 
 // Fills an empty place with a number or a string.
 #[inline(always)]
-fn fill_id<'a>(id: &mut Option<IdMember<'a>>, value: Token<'a>) -> Result<(), Invalid>
-    ensures { OnOk result (spec.IsFilled (option_map spec.id_value id.old) (token_of value.entry)
-        (option_map spec.id_value id.new)) }
+fn fill_id<'a>(id: &mut Option<IdValue<'a>>, value: IdValue<'a>) -> Option<()>
+    ensures { OnSome result (spec.IsFilled (option_map spec.value_of id.old) (spec.value_of value.entry)
+        (option_map spec.value_of id.new)) }
 {
-    match (*id, value) {
-        (None, Token::Number(text)) => {
-            *id = Some(IdMember::Number(text));
-            Ok(())
-        }
-        (None, Token::String(text)) => {
-            *id = Some(IdMember::Name(text));
-            Ok(())
-        }
-        _ => Err(Invalid),
+    if id.is_some() {
+        return None;
     }
+    *id = Some(value);
+    Some(())
+}
+
+#[inline(always)]
+fn behind_brace(bytes: &[u8]) -> Option<&[u8]>
+    ensures { IfSome result (λ rest. bytes.now ≡ 123 ∷ rest.now) }
+{
+    match bytes {
+        [b'{', rest @ ..] => Some(rest),
+        _ => None,
+    }
+}
+
+#[inline(always)]
+fn behind_colon(bytes: &[u8]) -> Option<&[u8]>
+    ensures { IfSome result (λ rest. bytes.now ≡ 58 ∷ rest.now) }
+{
+    match bytes {
+        [b':', rest @ ..] => Some(rest),
+        _ => None,
+    }
+}
+
+#[inline(always)]
+fn behind_comma(bytes: &[u8]) -> Option<&[u8]>
+    ensures { IfSome result (λ rest. bytes.now ≡ 44 ∷ rest.now) }
+{
+    match bytes {
+        [b',', rest @ ..] => Some(rest),
+        _ => None,
+    }
+}
+
+// Whether the object ends here, with blanks behind it alone.
+#[inline(always)]
+fn is_object_end(bytes: &[u8]) -> bool
+    ensures { result ≡ true → spec.IsObjectEnd bytes.now }
+{
+    match bytes {
+        [b'}', rest @ ..] => after_blanks(rest).is_empty(),
+        _ => false,
+    }
+}
+
+// What is behind blanks and tabs.
+#[inline(always)]
+fn after_blanks(bytes: &[u8]) -> &[u8]
+    ensures { spec.SkipsBlanks bytes.now result.now }
+{
+    for at in 0..bytes.len() {
+        if !is_blank(bytes[at]) {
+            return &bytes[at..];
+        }
+    }
+    &bytes[bytes.len()..]
+}
+
+// The key of an exchange that comes next, in quotes.
+#[inline(always)]
+fn member_key(bytes: &[u8]) -> Option<KeyText<'_>>
+    ensures { IfSome result (λ k. bytes.now ≡ 34 ∷ (spec.key_text k.key ++ 34 ∷ k.rest.now)) }
+{
+    let (key, rest) = match bytes {
+        [b'"', b'd', b'o', b'"', rest @ ..] => (MemberKey::Do, rest),
+        [b'"', b'f', b'r', b'o', b'm', b'"', rest @ ..] => (MemberKey::From, rest),
+        [b'"', b'i', b'd', b'"', rest @ ..] => (MemberKey::Id, rest),
+        [
+            b'"',
+            b'm',
+            b'e',
+            b's',
+            b's',
+            b'a',
+            b'g',
+            b'e',
+            b'"',
+            rest @ ..,
+        ] => { (MemberKey::Message, rest) }
+        [b'"', b't', b'a', b'g', b'"', rest @ ..] => (MemberKey::Tag, rest),
+        [b'"', b't', b'o', b'"', rest @ ..] => (MemberKey::To, rest),
+        _ => return None,
+    };
+    Some(KeyText { key, rest })
 }
 
 // The exchange that an object with these members stands for.
@@ -186,15 +249,21 @@ fn exchange_of<'a>(
 ) -> Option<ExchangeObject<'a>>
     ensures { IfSome result (spec.StandsForExchange options members.entry) }
 {
-    let word = word_of(members.word)?;
-    let id = id_of(options.names, members.id)?;
-    let from = field_of(members.from)?;
-    let to = field_of(members.to)?;
-    let message = field_of(members.message)?;
-    let tag = tag_of(options.tags, members.tag)?;
+    let word = members.word?;
+    if !is_exchange(word) {
+        return None;
+    }
+    let id = members.id?;
+    if !is_allowed(options.names, id) {
+        return None;
+    }
+    let from = members.from?;
+    let to = members.to?;
+    let message = members.message?;
+    let tag = shown_tag(options.tags, members.tag)?;
     Some(ExchangeObject {
         word,
-        id,
+        id: id.text,
         from,
         to,
         message,
@@ -202,47 +271,27 @@ fn exchange_of<'a>(
     })
 }
 
-// The word, where it is that of a send or a reception.
+// Whether the conversation may be so: a number, or where conversations have names also a string.
 #[inline(always)]
-fn word_of<'a>(text: Option<&'a str>) -> Option<&'a [u8]>
-    ensures { IfSome result (λ word. spec.IsWord text.entry word.now) }
+fn is_allowed(names: bool, id: IdValue<'_>) -> bool
+    ensures { result ≡ (not id.entry.quoted || names) }
 {
-    let word = text?.as_bytes();
-    if is_exchange(word) { Some(word) } else { None }
+    !id.quoted || names
 }
 
-// The conversation: a number, or where conversations have names also a string that is one field.
+// The tag of the line, where lines have tags. None at all where it is too long.
 #[inline(always)]
-fn id_of<'a>(names: bool, id: Option<IdMember<'a>>) -> Option<&'a [u8]>
-    ensures { IfSome result (λ field. spec.id_of names id.entry ≡ Some field.now) }
-{
-    match id {
-        Some(IdMember::Number(text)) => Some(text.as_bytes()),
-        Some(IdMember::Name(text)) if names => field_of(Some(text)),
-        _ => None,
-    }
-}
-
-// The text, where it is one field.
-#[inline(always)]
-fn field_of<'a>(text: Option<&'a str>) -> Option<&'a [u8]>
-    ensures { IfSome result (λ field. spec.field_of text.entry ≡ Some field.now) }
-{
-    let field = text?.as_bytes();
-    if is_field(field) { Some(field) } else { None }
-}
-
-// The tag, or that there is none. None at all where lines have tags, and this text is no tag.
-#[inline(always)]
-fn tag_of<'a>(tags: bool, text: Option<&'a str>) -> Option<Option<&'a [u8]>>
-    ensures { IfSome result (λ tag. spec.tag_of tags text.entry ≡ Some (option_map (λ t. t.now) tag)) }
+fn shown_tag<'a>(tags: bool, text: Option<&'a [u8]>) -> Option<Option<&'a [u8]>>
+    ensures { IfSome result (spec.IsShownTag tags text.entry) }
 {
     if !tags {
         return Some(None);
     }
-    let Some(text) = text else {
+    let Some(tag) = text else {
         return Some(None);
     };
-    let tag = text.as_bytes();
-    if is_tag(tag) { Some(Some(tag)) } else { None }
+    if tag.len() > MAX_TAG_BYTES {
+        return None;
+    }
+    Some(Some(tag))
 }

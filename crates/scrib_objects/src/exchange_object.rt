@@ -211,9 +211,9 @@ fn is_plain(byte: u8) -> bool
     b'!' <= byte && byte <= b'~' && byte != b'"' && byte != b'\\'
 }
 
-// The value of `id`: a number, or where conversations have names also a string.
+/// Returns the value of `id`: a number of digits, or where conversations have names also a string of plain bytes.
 #[inline(always)]
-fn id_value(names: bool, bytes: &[u8]) -> Option<IdValue<'_>>
+pub(crate) fn id_value(names: bool, bytes: &[u8]) -> Option<IdValue<'_>>
     ensures { IfSome result (spec.IsIdValue names bytes.now) }
 {
     match bytes {

@@ -2,7 +2,7 @@
 #![tactic(auto)]
 
 mod body;
-mod exchange_members;
+pub mod exchange_members;
 pub mod exchange_object;
 mod keys;
 mod line;

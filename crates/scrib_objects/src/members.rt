@@ -79,8 +79,8 @@ fn text_field<'a>(member: &Element<'_, 'a>) -> Option<&'a str>
     member.as_str().filter(|text| is_field(text.as_bytes()))
 }
 
-/// Returns whether the bytes are one field: not empty, without blanks and tabs.
-pub(crate) fn is_field(bytes: &[u8]) -> bool
+// Whether the bytes are one field: not empty, without blanks and tabs.
+fn is_field(bytes: &[u8]) -> bool
     ensures { result ≡ spec.is_field bytes.now }
 {
     !bytes.is_empty() && has_no_blank(bytes)
@@ -92,7 +92,8 @@ fn has_no_blank(bytes: &[u8]) -> bool
     bytes.iter().all(|byte| !is_blank(*byte))
 }
 
-fn is_blank(byte: u8) -> bool
+/// Returns whether the byte is a blank or a tab.
+pub(crate) fn is_blank(byte: u8) -> bool
     ensures { result ≡ is_blank byte }
 {
     byte == b' ' || byte == b'\t'

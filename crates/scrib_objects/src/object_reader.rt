@@ -6,8 +6,6 @@ ghost use Rattle.json.specs.Find.{BeginsWith};
 ghost use Rattle.scrib_objects.specs.Objects as spec;
 
 use crate::body::body_of;
-use crate::exchange_members::any_exchange;
-use crate::exchange_object::ExchangeObject;
 use crate::members::tag_of;
 use crate::object_line::{ObjectBody, ObjectLine};
 use crate::object_options::ObjectOptions;
@@ -23,8 +21,7 @@ pub struct ObjectReader {
 }
 
 impl ObjectReader {
-    ghost use Rattle.std.specs.Prelude.{IfOk, IfSome, option_map};
-    ghost use Rattle.scrib_objects.specs.ExchangeObjects.{IsExchangeObject};
+    ghost use Rattle.std.specs.Prelude.{IfOk, option_map};
     ghost use Rattle.scrib_objects.specs.Objects.{IsObjectLine, shown};
 
     /// Returns a reader, which takes memory from `alloc` as it reads.
@@ -58,20 +55,6 @@ impl ObjectReader {
             Err(Error::Invalid | Error::DuplicateKey) => Ok(None),
             Err(Error::OutOfMemory | Error::TooLong) => Err(AllocError),
         }
-    }
-
-    /// Returns the send or the reception that the object in this line stands for, where it has no members but those of
-    /// one. They may come in any order. The line is given without its end.
-    ///
-    /// It is none for other lines, some of which stand for an exchange, and where memory is refused. The reader can go on.
-    pub fn read_exchange<'a>(
-        &'a mut self,
-        options: ObjectOptions,
-        line: &'a [u8],
-    ) -> Option<ExchangeObject<'a>>
-        ensures { IfSome result (IsExchangeObject options line.now) }
-    {
-        any_exchange(&mut self.scratch, options, line)
     }
 }
 

@@ -1,6 +1,7 @@
 //! Objects, and what each stands for.
 
 use scrib_core::format::Format;
+use scrib_objects::exchange_members::exchange_in_any_order;
 use scrib_objects::exchange_object::{ExchangeObject, exchange_object};
 use scrib_objects::object_line::{ObjectBody, ObjectLine};
 use scrib_objects::object_options::ObjectOptions;
@@ -116,19 +117,19 @@ const EXCHANGES: [(&str, &str); 7] = [
     ("{\"do\":\"join\",\"id\":1,\"role\":\"A\"}", "other"),
 ];
 
-// Objects, and what they stand for where they are exchanges without other members.
-const ANY_EXCHANGES: [(&str, &str); 12] = [
+// Objects, and what they stand for where they are exchanges without escapes and other members.
+const ANY_EXCHANGES: [(&str, &str); 14] = [
     (
         "{\"do\": \"send\", \"id\": 1, \"from\": \"A\", \"to\": \"B\", \"message\": \"hello(Int)\"}",
         "send 1 A B hello(Int)",
     ),
     (
-        "{ \"tag\" :\"17\",\"to\":\"B\",\"message\":\"m()\",\"from\":\"\\u0041\",\"id\":\"o8\",\"\\u0064o\":\"recv\"} ",
-        "@17 recv o8 A B m()",
+        "\t{ \"tag\" :\"17\", \"to\":\"B\",\"message\":\"m()\",\"id\":\"order-8\",\"from\":\"A\",\"do\":\"recv\" } ",
+        "@17 recv order-8 A B m()",
     ),
     (
-        "{\"do\":\"recv\",\"from\":\"A\",\"id\":-1e3,\"message\":\"hello()\",\"to\":\"B\"}",
-        "recv -1e3 A B hello()",
+        "{\"do\":\"recv\",\"from\":\"A\",\"id\":1,\"message\":\"hello()\",\"to\":\"B\"}",
+        "recv 1 A B hello()",
     ),
     (
         "{\"do\":\"recv\",\"from\":\"A\",\"from\":\"A\",\"id\":1,\"message\":\"hello()\",\"to\":\"B\"}",
@@ -151,11 +152,19 @@ const ANY_EXCHANGES: [(&str, &str); 12] = [
         "other",
     ),
     (
-        "{\"do\":\"recv\",\"from\":\"A\",\"id\":1,\"message\":\"hello()\",\"tag\":\"a b\",\"to\":\"B\"}",
+        "{\"do\":\"recv\",\"from\":\"\\u0041\",\"id\":1,\"message\":\"hello()\",\"to\":\"B\"}",
+        "other",
+    ),
+    (
+        "{\"do\":\"recv\",\"from\":\"A\",\"id\":01,\"message\":\"hello()\",\"to\":\"B\"}",
         "other",
     ),
     (
         "{\"do\":\"turn\",\"from\":\"A\",\"id\":1,\"message\":\"hello()\",\"to\":\"B\"}",
+        "other",
+    ),
+    (
+        "{\"do\":\"recv\",\"from\":\"A\",\"id\":1,\"message\":\"hello()\",\"to\":\"B\",}",
         "other",
     ),
     (
@@ -171,7 +180,7 @@ const ANY_EXCHANGES: [(&str, &str); 12] = [
 // The same where no tags and names are allowed.
 const PLAIN_EXCHANGES: [(&str, &str); 2] = [
     (
-        "{\"tag\": \"a b\", \"do\": \"recv\", \"id\": 1, \"from\": \"A\", \"to\": \"B\", \"message\": \"hello()\"}",
+        "{\"tag\": \"17\", \"do\": \"recv\", \"id\": 1, \"from\": \"A\", \"to\": \"B\", \"message\": \"hello()\"}",
         "recv 1 A B hello()",
     ),
     (
@@ -215,13 +224,12 @@ fn exchanges_are_read_in_one_pass(rt: HostRuntime) -> Result<(), Fail> {
 #[test]
 fn exchanges_are_read_in_any_order(rt: HostRuntime) -> Result<(), Fail> {
     let alloc = rt.alloc();
-    let mut reader = ObjectReader::new(alloc);
     for (object, wanted) in ANY_EXCHANGES {
-        let line = printed_exchange(alloc, reader.read_exchange(ALL, object.as_bytes()))?;
+        let line = printed_exchange(alloc, exchange_in_any_order(ALL, object.as_bytes()))?;
         assert_eq!(rt; line.as_slice(), wanted.as_bytes(), "{object}");
     }
     for (object, wanted) in PLAIN_EXCHANGES {
-        let line = printed_exchange(alloc, reader.read_exchange(NONE, object.as_bytes()))?;
+        let line = printed_exchange(alloc, exchange_in_any_order(NONE, object.as_bytes()))?;
         assert_eq!(rt; line.as_slice(), wanted.as_bytes(), "{object}");
     }
     Ok(())
