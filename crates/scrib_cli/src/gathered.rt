@@ -4,6 +4,7 @@ ghost use Rattle.std.specs.Prelude.{◌≡◌, ◌++◌, [], true, codes, IfErr,
 ghost use Rattle.std.specs.Fmt.{decimal};
 ghost use Rattle.std.specs.Io.KnownBytes.{Appends};
 ghost use Rattle.scrib_core.specs.ReplyValues.{note_reply_of, open_reply_of};
+ghost use Rattle.scrib_report.specs.HeadedEvents.{headed_permitted};
 ghost use Rattle.scrib_report.specs.Parts.{bad_part, part_of};
 ghost use Rattle.scrib_report.specs.ReplyTexts.{part_text, reply_text};
 ghost use Rattle.scrib_script_io.specs.Faults.{of_output};
@@ -14,10 +15,12 @@ use scrib_core::conversation_steps::Noted;
 use scrib_core::format::Format;
 use scrib_core::reply::{Refusal, Reply, note_reply, open_reply};
 use scrib_report::event_line::{push_judged_event, push_permitted, push_permitted_verdict};
+use scrib_report::labelled_event::push_headed_permitted;
 use scrib_report::numbered::push_bad_line;
 use scrib_report::opened_line::push_opened_line;
 use scrib_report::part::OutputPart;
 use scrib_report::printing::push_part;
+use scrib_report::reply_head::ReplyHead;
 use scrib_script_io::fault::ScriptFault;
 use scrib_script_io::writing::write_out;
 use scrib_types::event::{Told, Verdict};
@@ -158,11 +161,28 @@ impl Gathered {
         self.add_part(&OutputPart::Reply(reply), format)
     }
 
-    /// Adds the bytes of texts that another crate printed.
+    /// Adds the line of the permitted event at this place of the conversation `id`, with this head.
     ///
     /// # Errors
     /// `AllocError` where memory is refused. The texts stay as they were.
     #[inline(always)]
+    pub fn add_headed_permitted(
+        &mut self,
+        id: u32,
+        place: u64,
+        head: ReplyHead<'_>,
+    ) -> Result<(), AllocError>
+        ensures ok { OnOk result
+            (self.new.bytes.items ≡ self.old.bytes.items ++ headed_permitted head.entry id place) }
+        ensures err { OnErr result (self.new.bytes.items ≡ self.old.bytes.items) }
+    {
+        push_headed_permitted(&mut self.bytes, id, place, head)
+    }
+
+    /// Adds the bytes of texts that another crate printed.
+    ///
+    /// # Errors
+    /// `AllocError` where memory is refused. The texts stay as they were.
     pub fn add_bytes(&mut self, bytes: &[u8]) -> Result<(), AllocError>
         ensures ok { OnOk result (self.new.bytes.items ≡ self.old.bytes.items ++ bytes.now) }
         ensures err { OnErr result (self.new.bytes.items ≡ self.old.bytes.items) }

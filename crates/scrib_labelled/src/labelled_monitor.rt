@@ -11,7 +11,6 @@ use scrib_core::conversation_steps::{Noted, Tested};
 use scrib_core::format::Format;
 use scrib_core::reply::{Refusal, Reply, close_reply, note_reply};
 use scrib_core::step::Step;
-use scrib_report::headed_line::HeadedLine;
 use scrib_report::label::Label;
 use scrib_report::labelled::{push_labelled_bad_line, push_labelled_end, push_labelled_reply};
 use scrib_report::printing::reply_format;
@@ -39,8 +38,6 @@ pub struct LabelledMonitor {
     style: LabelledStyle,
     // The text of one item. Where memory is refused in the midst of it, the gathered texts stay whole.
     text: Vec<u8>,
-    // The line of one permitted event.
-    line: HeadedLine,
     /// The replies that are not written yet.
     pub gathered: Gathered,
 }
@@ -53,10 +50,7 @@ impl LabelledMonitor {
     ghost use Rattle.scrib_core.specs.ReplyValues.{note_reply_of};
     ghost use Rattle.scrib_core.specs.declared.format.Format.TheVariants as format;
     ghost use Rattle.scrib_core.specs.declared.reply.Reply.{Reply};
-    ghost use Rattle.scrib_core.specs.declared.reply.Reply.TheVariants as reply;
     ghost use Rattle.scrib_core.specs.declared.step.Step.TheVariants.{Close};
-    ghost use Rattle.scrib_types.specs.declared.event.Told.TheVariants.{Judged};
-    ghost use Rattle.scrib_types.specs.declared.event.Verdict.TheVariants.{Permitted};
     ghost use Rattle.scrib_report.specs.LabelledReplies.{labelled_reply};
     ghost use Rattle.scrib_report.specs.PutBack as spec;
     ghost use Rattle.scrib_report.specs.PutBack.{name_of, tag_of};
@@ -75,7 +69,6 @@ impl LabelledMonitor {
             core: CheckedCore::new(alloc),
             style,
             text: Vec::new(alloc),
-            line: HeadedLine::new(),
             gathered: Gathered::new(alloc),
         }
     }
@@ -311,79 +304,15 @@ impl LabelledMonitor {
                     place,
                     told: Told::Judged(Verdict::Permitted),
                 },
-            ) => self.gather_permitted(id, place, label, tag_text),
+            ) => {
+                let head = ReplyHead {
+                    tag_text,
+                    name: label.name,
+                };
+                self.gathered.add_headed_permitted(id, place as u64, head)
+            }
             noted => self.gather_line(&note_reply(id, noted), label),
         }
-    }
-
-    // Gathers the line of the permitted event at this place with this label. After an error the gathered texts are
-    // unchanged.
-    #[inline(always)]
-    fn gather_permitted(
-        &mut self,
-        id: u32,
-        place: usize,
-        label: Label<'_>,
-        tag_text: &[u8],
-    ) -> Result<(), AllocError>
-        requires { tag_text.now ≡ spec.tag_text (tag_of label) }
-        ensures core { self.new.core ≡ self.old.core }
-        ensures style { self.new.style ≡ self.old.style }
-        ensures ok { OnOk result (self.new.gathered.bytes.items ≡ self.old.gathered.bytes.items
-            ++ labelled_reply format.Line (tag_of label.entry) (name_of label.entry)
-            (reply.Noted id place (Judged Permitted))) }
-        ensures err { OnErr result (self.new.gathered.bytes.items ≡ self.old.gathered.bytes.items) }
-    {
-        if label.tag.is_none() && label.name.is_none() {
-            let told = Told::Judged(Verdict::Permitted);
-            return self
-                .gathered
-                .add_noted(id, Ok(Noted { place, told }), Format::Line);
-        }
-        self.gather_headed(id, place, label, tag_text)
-    }
-
-    // The same where the line has a tag or the conversation a name. It is not inlined, so that LLVM inlines what it
-    // calls.
-    #[inline(never)]
-    fn gather_headed(
-        &mut self,
-        id: u32,
-        place: usize,
-        label: Label<'_>,
-        tag_text: &[u8],
-    ) -> Result<(), AllocError>
-        requires { tag_text.now ≡ spec.tag_text (tag_of label) }
-        ensures core { self.new.core ≡ self.old.core }
-        ensures style { self.new.style ≡ self.old.style }
-        ensures ok { OnOk result (self.new.gathered.bytes.items ≡ self.old.gathered.bytes.items
-            ++ labelled_reply format.Line (tag_of label.entry) (name_of label.entry)
-            (reply.Noted id place (Judged Permitted))) }
-        ensures err { OnErr result (self.new.gathered.bytes.items ≡ self.old.gathered.bytes.items) }
-    {
-        let head = ReplyHead {
-            tag_text,
-            name: label.name,
-        };
-        match self.line.permitted(id, place as u64, head) {
-            Some(line) => self.gathered.add_bytes(line),
-            // no label is as long as that
-            None => self.gather_long(id, place, label),
-        }
-    }
-
-    // The same of any label. It is apart so that the function above needs no room for a reply.
-    #[inline(never)]
-    fn gather_long(&mut self, id: u32, place: usize, label: Label<'_>) -> Result<(), AllocError>
-        ensures core { self.new.core ≡ self.old.core }
-        ensures style { self.new.style ≡ self.old.style }
-        ensures ok { OnOk result (self.new.gathered.bytes.items ≡ self.old.gathered.bytes.items
-            ++ labelled_reply format.Line (tag_of label.entry) (name_of label.entry)
-            (reply.Noted id place (Judged Permitted))) }
-        ensures err { OnErr result (self.new.gathered.bytes.items ≡ self.old.gathered.bytes.items) }
-    {
-        let told = Told::Judged(Verdict::Permitted);
-        self.gather_line(&note_reply(id, Ok(Noted { place, told })), label)
     }
 
     // Gathers the line of the reply with this label.

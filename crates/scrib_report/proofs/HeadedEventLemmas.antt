@@ -1,5 +1,5 @@
 -- The line of a permitted event with a name in the place of the conversation's number.
-use Rattle.std.proofs.Common.{◌≡◌, ◌∙◌, ◌==◌, ◌≤◌, ◌<◌, ◌+◌, ◌-◌, ◌^◌, inl, inr, ℕ, suc, true, false, Bool, List, [], ◌∷◌, ◌++◌, Some, cond, codes, length, take, drop, set, refl, ap, arith}
+use Rattle.std.proofs.Common.{◌≡◌, ◌∙◌, ◌==◌, ◌≤◌, ◌<◌, ◌+◌, ◌-◌, ◌^◌, inl, inr, ℕ, suc, true, false, Bool, List, [], ◌∷◌, ◌++◌, Some, cond, codes, length, take, drop, set, refl, sym, ap, append_assoc, Result, Ok, Err, is_ok, if◌then◌else◌, arith}
 use Rattle.std.specs.Char.{digit_value}
 use Rattle.std.specs.Fmt.{decimal}
 use Rattle.std.specs.Str.Parse.{AllDigits}
@@ -66,7 +66,7 @@ named-digits name (b ∷ bs) rest some h =
 apart : (id dot place blank word end : List ℕ) → (id ++ dot ++ place ++ blank ++ word) ++ end ≡ id ++ (dot ++ (place ++ (blank ++ word ++ end)))
 apart id dot place blank word end = grind (arith, common_steps)
 
-pub permitted-is : (id place : ℕ) → permitted_text id place ≡ decimal id ++ 46 ∷ (decimal place ++ codes " permitted\n")
+permitted-is : (id place : ℕ) → permitted_text id place ≡ decimal id ++ 46 ∷ (decimal place ++ codes " permitted\n")
 unfolding line_of told_text verdict_text
 permitted-is id place = apart (decimal id) (codes ".") (decimal place) (codes " ") (codes "permitted") (10 ∷ [])
 
@@ -75,6 +75,18 @@ named_permitted name id place small =
     let is = decimal_is_IsNumeral id small in
     ap (with_name (Some name)) (permitted-is id place) ∙ named-digits name (decimal id) (decimal place ++ codes " permitted\n") is.0.0 is.0.1
 
+five-apart : (old tag name dot place end : List ℕ) → old ++ tag ++ name ++ dot ++ place ++ end ≡ old ++ (tag ++ (name ++ (dot ++ (place ++ end))))
+five-apart old tag name dot place end = grind (arith, common_steps)
+
+-- the pieces of a line with a name
+pub pieces_named : (old tag name : List ℕ) (id place : ℕ) → id < 2 ^ 64 → old ++ tag ++ name ++ codes "." ++ decimal place ++ codes " permitted\n" ≡ old ++ (tag ++ with_name (Some name) (permitted_text id place))
+pieces_named old tag name id place small =
+    five-apart old tag name (codes ".") (decimal place) (codes " permitted\n") ∙ ap (λ (t : List ℕ). old ++ (tag ++ t)) (sym (named_permitted name id place small))
+
+-- the pieces of a line without one
+pub pieces_numbered : (old tag line end : List ℕ) → old ++ tag ++ line ++ end ≡ old ++ (tag ++ (line ++ end))
+pieces_numbered old tag line end = grind (arith, common_steps)
+
 -- ---- a place behind a dot
 
 -- a dot written in front of a place
@@ -82,3 +94,11 @@ pub dot_before : (n at : ℕ) (one end : List ℕ) → 1 ≤ at → at - 1 < len
 dot_before n at one end some within e =
     let next : at - 1 + 1 ≡ at = omega (arith, some) in
     drop-set one (at - 1) 46 within ∙ ap (λ rest. 46 ∷ rest) (ap (λ i. drop i one) next ∙ e)
+
+pub place_pieces : (old dot place end : List ℕ) → old ++ (dot ++ (place ++ end)) ≡ old ++ dot ++ place ++ end
+place_pieces old dot place end = grind (arith, common_steps)
+
+-- two pieces, of which the first is there and the second may be
+pub kept_pieces : {E : Type 0} (r : Result (Unit {0}) E) (new mid old a b : List ℕ) → mid ≡ old ++ a → new ≡ (if is_ok r then mid ++ b else mid) → (x : List ℕ) × (new ≡ old ++ x)
+kept_pieces (Ok u) new mid old a b m e = (a ++ b, e ∙ ap (λ (t : List ℕ). t ++ b) m ∙ append_assoc old a b)
+kept_pieces (Err u) new mid old a b m e = (a, e ∙ m)

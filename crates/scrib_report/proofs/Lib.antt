@@ -1,6 +1,5 @@
 pub mod EventLine
 mod HeadedEventLemmas
-mod HeadedLineLemmas
 mod LabelledMembers
 mod Members
 mod Totals

@@ -1,6 +1,6 @@
 //! Lines of events, and of permitted verdicts, that are appended whole or not at all.
 
-ghost use Rattle.std.specs.Prelude.{◌≡◌, ◌≤◌, ◌+◌, ◌++◌, ◌∷◌, [], ℕ, List, OnOk, OnErr, codes, drop, length};
+ghost use Rattle.std.specs.Prelude.{◌≡◌, ◌≤◌, ◌++◌, ◌∷◌, [], ℕ, List, OnOk, OnErr, codes, drop, length};
 ghost use Rattle.std.specs.Fmt.{decimal};
 ghost use Rattle.scrib_types.specs.Texts.{allowed_text};
 ghost use Rattle.scrib_types.specs.declared.event.Told.TheVariants.{Judged};
@@ -184,11 +184,10 @@ fn push_event(
 
 // Writes an id, a dot and a place so that they end at `end`. Returns where they begin.
 #[inline(always)]
-pub(crate) fn write_event(line: &mut [u8], id: u32, place: u64, end: usize) -> usize
+fn write_event(line: &mut [u8], id: u32, place: u64, end: usize) -> usize
     requires room { 31 ≤ end }
     requires within { end ≤ length line.old }
     ensures written { drop result line.new ≡ decimal id ++ codes "." ++ decimal place ++ drop end line.old }
-    ensures start { result + (length (decimal id) + 1 + length (decimal place)) ≡ end }
     ensures within { result ≤ end }
     ensures same_length { length line.new ≡ length line.old }
 {

@@ -1,4 +1,4 @@
-use Rattle.std.proofs.Common.{◌≡◌, ◌≤◌, ◌+◌, ◌-◌, ◌++◌, ◌∙◌, ap, drop, length, set, sym, arith}
+use Rattle.std.proofs.Common.{◌≤◌, ◌-◌, ◌++◌, ◌∙◌, ap, drop, length, set, arith}
 use Rattle.std.proofs.lemmas.List.{length-set}
 use Rattle.std.specs.Fmt.{decimal}
 use Rattle.scrib_report.proofs.EventLine.{two_numbers, long_digits, short_digits}
@@ -30,11 +30,3 @@ returns-clause-written c =
     let at_least : 1 ≤ one.result = omega (arith, long_digits c.args.place c.ranges.place.fits, one.ensures.start, c.requires.room) in
     let text = two_numbers c.args.id c.args.place one.result two.result 46 one.new.buf two.new.buf (drop c.args.end c.args.line.now) at_least (omega (arith, at_least, one.ensures.start, one.auto.buf, c.requires.within)) one.ensures.written (two.ensures.written ∙ ap (λ i. decimal i ++ drop (one.result - 1) (set one.new.buf (one.result - 1) 46)) c.from.ensures) in
     text
-
-pub returns-clause-start : goal.returns-clause-start
-returns-clause-start c =
-    let one = c.write_digits-place_at in
-    let two = c.write_digits in
-    let at_least : 1 ≤ one.result = omega (arith, long_digits c.args.place c.ranges.place.fits, one.ensures.start, c.requires.room) in
-    let start : two.result + length (decimal c.args.id) ≡ one.result - 1 = ap (λ i. two.result + length (decimal i)) (sym c.from.ensures) ∙ two.ensures.start in
-    omega (arith, start, one.ensures.start, at_least)
