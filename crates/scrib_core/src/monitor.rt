@@ -1,6 +1,7 @@
 //! The core: the monitor on one thread.
 
-ghost use Rattle.std.specs.Prelude.{◌≡◌, ◌↔◌, IfOk, IsTrue, OnErr};
+ghost use Rattle.std.specs.Prelude.{◌≡◌, ◌↔◌, IfOk, IsTrue, OnErr, slice_get};
+ghost use Rattle.std.specs.Map.{keys_of};
 ghost use Rattle.std.specs.Option.{option_map};
 ghost use Rattle.scrib_types.specs.Meaning.{agreement_of};
 ghost use Rattle.scrib_library.specs.Modules.{IsMeaning};
@@ -283,6 +284,15 @@ impl Core {
         let record = self.records.get(&id)?;
         let protocol = protocol_of(&self.library, record.name());
         Some((protocol, record.log()))
+    }
+
+    /// Returns the number of the open conversation at this index, from 0, in the order of the world's list. That order
+    /// stays until a conversation is opened or closed.
+    pub fn conversation_at(&self, index: usize) -> Option<u32>
+        ensures { result ≡ slice_get (keys_of (state_of self.now).world.conversations) index }
+    {
+        let (id, _) = self.records.get_index(index)?;
+        Some(*id)
     }
 
     // Makes a step given by reference, copying what is kept.
