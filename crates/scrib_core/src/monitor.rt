@@ -1,6 +1,6 @@
 //! The core: the monitor on one thread.
 
-ghost use Rattle.std.specs.Prelude.{◌≡◌, ◌↔◌, IfOk, IsTrue, OnErr, slice_get};
+ghost use Rattle.std.specs.Prelude.{◌≡◌, ◌↔◌, IfOk, IsTrue, OnErr, length, slice_get};
 ghost use Rattle.std.specs.Map.{keys_of};
 ghost use Rattle.std.specs.Option.{option_map};
 ghost use Rattle.scrib_types.specs.Meaning.{agreement_of};
@@ -284,6 +284,13 @@ impl Core {
         let record = self.records.get(&id)?;
         let protocol = protocol_of(&self.library, record.name());
         Some((protocol, record.log()))
+    }
+
+    /// Returns how many conversations are open.
+    pub fn open_count(&self) -> usize
+        ensures { result ≡ length (state_of self.now).world.conversations }
+    {
+        self.records.len()
     }
 
     /// Returns the number of the open conversation at this index, from 0, in the order of the world's list. That order
