@@ -1,0 +1,2 @@
+pub mod VerdictCounts
+pub mod Summaries
