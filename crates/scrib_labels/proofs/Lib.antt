@@ -2,3 +2,4 @@ mod FieldLemmas
 mod NamingLemmas
 pub mod NumberedLines
 mod TagLemmas
+mod VisibleLemmas

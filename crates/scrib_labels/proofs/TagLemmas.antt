@@ -1,5 +1,5 @@
 -- The tag of a line is what is before its first blank.
-use Rattle.std.proofs.Common.{◌≡◌, ◌∙◌, ◌+◌, ◌<◌, inl, inr, ℕ, zero, suc, true, false, List, [], ◌∷◌, ◌++◌, length, take, drop, get_or, refl, sym, ap, subst, arith, rules}
+use Rattle.std.proofs.Common.{◌≡◌, ◌∙◌, ◌+◌, inl, inr, ℕ, suc, true, false, List, [], ◌∷◌, ◌++◌, take, drop, refl, sym, ap, subst, arith, rules}
 use Rattle.std.specs.List.{position_or_len}
 use Rattle.std.proofs.lemmas.Bool.{cases_Bool, false≢true}
 use Rattle.std.proofs.lemmas.Bool.Decides.{nat_tests}
@@ -55,12 +55,3 @@ cut_is_bad line after tag e t h = (
       let is : tag ≡ own = t ∙ ap (λ (x : List ℕ). take (position_or_len is_blank x) x) same ∙ first in
       false≢true (sym h ∙ ap is_tag is ∙ own_tag),
 )
-
--- one more visible byte
-pub visible_more : (bytes : List ℕ) (n : ℕ) → n < length bytes → all_visible (take n bytes) ≡ true → is_visible (get_or bytes n 0) ≡ true → all_visible (take (suc n) bytes) ≡ true
-visible_more [] n l h v = absurd (omega (arith, l))
-visible_more (b ∷ bs) zero l h v = rw v refl
-visible_more (b ∷ bs) (suc n) l h v =
-    let first : is_visible b ≡ true = search rules in
-    let more : all_visible (take n bs) ≡ true = search rules in
-    rw first (visible_more bs n (omega (arith, l)) more v)

@@ -6,3 +6,4 @@ pub mod session_line;
 pub mod session_name;
 pub mod session_names;
 pub mod tag;
+mod visible;

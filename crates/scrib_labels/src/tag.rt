@@ -4,6 +4,7 @@ ghost use Rattle.std.specs.Prelude.{◌≡◌, ◌≤◌, ◌∷◌, true, false
 ghost use Rattle.scrib_labels.specs.Tags as spec;
 
 use crate::field::field_len;
+use crate::visible::{short_visible_run, visible_run};
 
 /// The most bytes of a tag.
 pub const MAX_TAG_BYTES: usize = 64;
@@ -51,13 +52,10 @@ fn visible_len(bytes: &[u8]) -> usize
     ensures within { result ≤ length bytes.now }
     ensures few { result ≤ 64 }
 {
-    let most = bytes.len().min(MAX_TAG_BYTES);
-    for at in 0..most {
-        if bytes[at] < b'!' || bytes[at] > b'~' {
-            return at;
-        }
+    match short_visible_run(bytes) {
+        Some(len) => len,
+        None => visible_run(&bytes[..bytes.len().min(MAX_TAG_BYTES)]),
     }
-    most
 }
 
 /// Returns the tag that a line begins with, and the rest of the line.

@@ -1,15 +1,28 @@
-use Rattle.std.proofs.Common.{◌≡◌, ◌<◌, ◌≤◌, ℕ, true, length, get_or, add-one, arith}
-use Rattle.std.proofs.lemmas.Bool.Decides.{nat_tests}
-use Rattle.scrib_labels.specs.Tags.{is_visible}
-use Rattle.scrib_labels.proofs.TagLemmas.{visible_more}
+use Rattle.std.proofs.Common.{◌∙◌, take, sym, ap, arith}
+use Rattle.std.specs.List.{prefix_len}
+use Rattle.std.proofs.lemmas.List.{length-take-le, take-take}
+use Rattle.std.proofs.lemmas.List.Sums.{prefix_len-le-length}
+use Rattle.scrib_labels.specs.Tags.{all_visible, is_visible}
+use Rattle.scrib_labels.proofs.VisibleLemmas.{visible_front}
 use Rattle.scrib_labels.proofs.tag.visible_len.Goals as goal
 
-visible : (b : ℕ) → 33 ≤ b → b ≤ 126 → is_visible b ≡ true
-visible b l h = grind (arith, nat_tests)
+pub returns-in-Some-clause-visible : goal.returns-in-Some-clause-visible
+returns-in-Some-clause-visible c = ap (λ n. all_visible (take n c.args.bytes.now)) c.in-Some.ensures.run ∙ visible_front c.args.bytes.now
 
-pub loop-at-preserved : goal.loop-at-preserved
-loop-at-preserved c =
-    let at = c.loop-at.at in
+pub returns-in-Some-clause-within : goal.returns-in-Some-clause-within
+returns-in-Some-clause-within c = omega (arith, prefix_len-le-length is_visible c.args.bytes.now, c.in-Some.ensures.run)
+
+pub returns-in-None-clause-visible : goal.returns-in-None-clause-visible
+returns-in-None-clause-visible c =
     let bytes = c.args.bytes.now in
-    let here : at < length bytes = omega arith in
-    rw add-one (visible_more bytes at here c.loop-at.invariant (visible (get_or bytes at 0) (omega (arith, c.if-bytes-at-lt33.false)) (omega (arith, c.if-bytes-at-gt126.false))))
+    let most = c.min.result in
+    let bound = prefix_len-le-length is_visible (take most bytes) in
+    ap (λ n. all_visible (take n bytes)) c.visible_run.ensures
+    ∙ ap all_visible (sym (take-take (prefix_len is_visible (take most bytes)) most bytes (omega (arith, bound, length-take-le most bytes (omega arith)))))
+    ∙ visible_front (take most bytes)
+
+pub returns-in-None-clause-within : goal.returns-in-None-clause-within
+returns-in-None-clause-within c = omega (arith, prefix_len-le-length is_visible (take c.min.result c.args.bytes.now), length-take-le c.min.result c.args.bytes.now (omega arith))
+
+pub returns-in-None-clause-few : goal.returns-in-None-clause-few
+returns-in-None-clause-few c = omega (arith, prefix_len-le-length is_visible (take c.min.result c.args.bytes.now), length-take-le c.min.result c.args.bytes.now (omega arith))
