@@ -2,6 +2,7 @@
 #![tactic(auto)]
 
 pub mod field;
+mod name_slot;
 pub mod session_line;
 pub mod session_name;
 pub mod session_names;

@@ -5,14 +5,17 @@ ghost use Rattle.std.specs.HashMap.{get_by_text};
 ghost use Rattle.scrib_labels.specs.SessionNames.{is_session_name};
 ghost use Rattle.scrib_labels.specs.NameSlots.{name_at};
 
+use crate::name_slot::name_slot;
 use indexmap::IndexMap;
 use scrib_types::bytes::same_bytes;
-use scrib_types::hashing::{hash_bytes, slot_of};
 use slab::Slab;
 use std::alloc::{AllocError, Global};
 
 // How many hints there are at first. There is always a power of two of them, or none.
-const FIRST_HINTS: usize = 64;
+const FIRST_HINTS: usize = 256;
+
+// How many hints there are for each name at least, so that few names share one.
+const HINTS_OF_A_NAME: usize = 4;
 
 /// Names of conversations, each with a number of its own. A name's number stays the same until the name is removed.
 #[derive(Drop)]
@@ -73,7 +76,7 @@ impl SessionNames {
     // The slot of the name among the hints.
     #[inline(always)]
     fn slot_of(&self, name: &[u8]) -> usize {
-        slot_of(hash_bytes(0, name), self.hints.len())
+        name_slot(name, self.hints.len())
     }
 
     /// Returns a number that no name has. None where 4,294,967,296 names have one.
@@ -117,7 +120,7 @@ impl SessionNames {
     fn hint(&mut self, name: &[u8], number: u32)
         ensures { self.new ≡ record self.old { hints = self.new.hints } }
     {
-        if self.hints.len() < 2 * self.numbers.len() {
+        if self.hints.len() / HINTS_OF_A_NAME < self.numbers.len() {
             let _ = self.more_hints();
         }
         let slot = self.slot_of(name);
@@ -133,7 +136,7 @@ impl SessionNames {
         let count = self.hints.len().saturating_mul(2).max(FIRST_HINTS);
         self.hints.resize(count, 0)?;
         for (name, number) in self.numbers.iter() {
-            let slot = slot_of(hash_bytes(0, name.as_bytes()), self.hints.len());
+            let slot = name_slot(name.as_bytes(), self.hints.len());
             if let Some(hint) = self.hints.get_mut(slot) {
                 *hint = *number;
             }

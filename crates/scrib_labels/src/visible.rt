@@ -1,4 +1,4 @@
-//! The visible bytes that bytes begin with, which are looked for sixteen at a time.
+//! The visible bytes that a text begins with, looked for sixteen at a time.
 
 ghost use Rattle.std.specs.Prelude.{◌≡◌, ◌<◌, ◌≤◌, ℕ, IfSome, true, length, map, not, slice_index};
 ghost use Rattle.std.specs.List.{prefix_len};
@@ -10,10 +10,11 @@ use std::simd::prelude::*;
 // How many bytes are tested at once.
 const LANES: usize = 16;
 
-// The bytes that are not visible are these many, from the one behind `~`: 127 to 255 and then 0 to 32.
+// How many bytes are not visible: those behind `~`, from 127 to 255, and then 0 to 32.
 const OTHERS: u8 = 162;
 
-/// Returns the number of visible bytes that the bytes begin with, where that is less than 16 and there are 16 bytes.
+/// Returns the number of visible bytes that the bytes begin with, where it is less than 16. None where it is more, and
+/// where there are fewer than 16 bytes.
 #[inline(always)]
 pub(crate) fn short_visible_run(bytes: &[u8]) -> Option<usize>
     ensures run { IfSome result (λ len. len ≡ prefix_len is_visible bytes.now) }
@@ -45,7 +46,7 @@ pub(crate) fn visible_run(bytes: &[u8]) -> usize
     visible_end(bytes, at)
 }
 
-// Bit k is set where byte k is not visible.
+// The mask whose bit k is set where byte k is not visible.
 #[inline(always)]
 fn others(bytes: u8x16) -> u64
     ensures { result ≡ mask_l (map (λ b. not (is_visible b)) bytes) }
@@ -55,7 +56,7 @@ fn others(bytes: u8x16) -> u64
         .to_bitmask()
 }
 
-// The same number, where the bytes in front of `from` are visible. Byte by byte, for the last few.
+// The number of visible bytes that the bytes begin with, where those in front of `from` are visible.
 fn visible_end(bytes: &[u8], from: usize) -> usize
     requires within { from ≤ length bytes.now }
     requires visible { (k : ℕ) → k < from → is_visible (slice_index bytes.now k) ≡ true }
