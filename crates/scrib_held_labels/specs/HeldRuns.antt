@@ -15,14 +15,18 @@ use Rattle.scrib_hold.specs.HeldScripts.{Asked, Pending, staged_from}
 use Rattle.scrib_hold.specs.NumberedItems.{Numbered, LetsOutNumbered}
 use Rattle.scrib_labelled.specs.declared.label_options.LabelledStyle.{LabelledStyle}
 use Rattle.scrib_labelled.specs.LabelledEntries.{LabelledEntry}
-use Rattle.scrib_labelled.specs.LabelledLines.{LineLabel, no_label}
+use Rattle.scrib_labelled.specs.LabelledLines.{LineLabel}
 use Rattle.scrib_labelled.specs.LabelledRuns.{IsNumberIn, Naming, Takes, session_name}
 
 -- the entries without their labels
 abbrev pub plain : List LabelledEntry → List Entry
 plain entries = map (λ e. e.1) entries
 
--- the label of entry n, where k is the number of the first; there is none of an entry that there is not
+-- the label that stands for that of an entry that there is not
+abbrev pub no_label : LineLabel
+no_label = record { line = 0; tag = None; session = None }
+
+-- the label of entry n, where k is the number of the first
 abbrev pub labels_from : (k : ℕ) → List LabelledEntry → (n : ℕ) → LineLabel
 labels_from k [] n = no_label
 labels_from k (e ∷ entries) n = if nat_eq k n then e.0 else labels_from (k + 1) entries n

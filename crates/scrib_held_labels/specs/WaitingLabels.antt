@@ -23,7 +23,7 @@ kept_name session = option_map (λ s. string_bytes s.name) session
 
 -- the label that is kept
 abbrev pub label_kept : KeptLabel → LineLabel
-label_kept kept = record { tag = bytes_kept kept.tag; session = session_kept kept.session }
+label_kept kept = record { line = kept.line; tag = bytes_kept kept.tag; session = session_kept kept.session }
 
 -- the label of the entry of this number, if it is kept
 abbrev pub kept_at : WaitingLabels → ℕ → Option KeptLabel

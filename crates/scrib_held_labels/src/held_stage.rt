@@ -201,6 +201,7 @@ impl EntryStage for HeldStage {
 
     fn note(&mut self, line: ExchangeLine<'_>) -> Result<(), AllocError> {
         let ExchangeLine {
+            line,
             tag,
             name,
             id,
@@ -208,6 +209,7 @@ impl EntryStage for HeldStage {
             ..
         } = line;
         let parts = LineParts {
+            line,
             tag,
             session: session_with(name, id),
         };

@@ -20,6 +20,7 @@ pub(crate) struct KeptSession {
 /// The label of an entry.
 #[derive(Drop)]
 pub(crate) struct KeptLabel {
+    line: u64,
     tag: Option<Vec<u8>>,
     pub(crate) session: Option<KeptSession>,
 }
@@ -33,6 +34,7 @@ impl KeptLabel {
         ensures { IfOk result (λ kept. spec.label_kept kept ≡ label_of parts.entry) }
     {
         Ok(KeptLabel {
+            line: parts.line,
             tag: kept_tag(alloc, parts.tag)?,
             session: kept_session(alloc, parts.session)?,
         })

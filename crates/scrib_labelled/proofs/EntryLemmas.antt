@@ -26,23 +26,23 @@ items_with_skipped es label = items_append es ((label, entry.Skipped) ∷ []) �
 -- the items among the entries of lines are those that the lines spell
 pub items_spelled : (o : LabelOptions) (ls : List (List ℕ)) (n : ℕ) (t : Option LabelledText) (es : List LabelledEntry) → SpellsLabelledEntries o ls n t es → SpellsLabelled o ls n t (items_among es)
 items_spelled o _ _ _ _ entries.no_line = no_line
-items_spelled o _ _ _ _ (entries.skips ls n es l label s says) =
+items_spelled o _ _ _ _ (entries.skips ls n es l label s says at) =
     subst (λ (is : List (LineLabel × Item)). SpellsLabelled o (ls ++ l ∷ []) (n + 1) None is) (sym (items_with_skipped es label))
-    (skips ls n (items_among es) l label (items_spelled o ls n None es s) says)
-items_spelled o _ _ _ _ (entries.makes ls n es l label f s h says) =
+    (skips ls n (items_among es) l label (items_spelled o ls n None es s) says at)
+items_spelled o _ _ _ _ (entries.makes ls n es l label f s h says at) =
     subst (λ (is : List (LineLabel × Item)). SpellsLabelled o (ls ++ l ∷ []) (n + 1) None is) (sym (items_with_item es label (item.Step f s)))
-    (makes ls n (items_among es) l label f s (items_spelled o ls n None es h) says)
-items_spelled o _ _ _ _ (entries.is_bad ls n es l label s says) =
+    (makes ls n (items_among es) l label f s (items_spelled o ls n None es h) says at)
+items_spelled o _ _ _ _ (entries.is_bad ls n es l label s says at) =
     subst (λ (is : List (LineLabel × Item)). SpellsLabelled o (ls ++ l ∷ []) (n + 1) None is) (sym (items_with_item es label (item.BadLine n)))
-    (is_bad ls n (items_among es) l label (items_spelled o ls n None es s) says)
-items_spelled o _ _ _ _ (entries.begins ls n es l label f s says) = begins ls n (items_among es) l label f (items_spelled o ls n None es s) says
+    (is_bad ls n (items_among es) l label (items_spelled o ls n None es s) says at)
+items_spelled o _ _ _ _ (entries.begins ls n es l label f s says at) = begins ls n (items_among es) l label f (items_spelled o ls n None es s) says at
 items_spelled o _ _ _ _ (entries.goes_on ls n es l t s other) = goes_on ls n (items_among es) l t (items_spelled o ls n (Some t) es s) other
 items_spelled o _ _ _ _ (entries.puts ls n es l t s ended) =
     subst (λ (is : List (LineLabel × Item)). SpellsLabelled o (ls ++ l ∷ []) (n + 1) None is) (sym (items_with_item es t.label _))
     (puts ls n (items_among es) l t (items_spelled o ls n (Some t) es s) ended)
-items_spelled o _ _ _ _ (entries.puts_object ls n es l label f text s is) =
+items_spelled o _ _ _ _ (entries.puts_object ls n es l label f text s is at) =
     subst (λ (is : List (LineLabel × Item)). SpellsLabelled o (ls ++ l ∷ []) (n + 1) None is) (sym (items_with_item es label _))
-    (puts_object ls n (items_among es) l label f text (items_spelled o ls n None es s) is)
+    (puts_object ls n (items_among es) l label f text (items_spelled o ls n None es s) is at)
 
 -- the same of a whole script
 pub all_items_among : (t : Option LabelledText) (es : List LabelledEntry) → items_among (all_entries t es) ≡ all_items t (items_among es)

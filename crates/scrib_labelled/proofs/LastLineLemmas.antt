@@ -16,14 +16,14 @@ use Rattle.scrib_labelled.specs.LabelledScripts.{LabelledText}
 use Rattle.scrib_labelled.specs.LineEnds.{EndsLast, EndsText, FailsLast, FailsText, HasLabel, IsCutOf, IsPutLabel, LastLineEnds, LastLineFails, LineEnds, LineFails, OfLines, PutFails, PutsText, of_cut, of_last, of_last_text_line}
 use Rattle.scrib_labelled.specs.Readings.{HoldsUnended, IsPartOfLines, kept_len}
 use Rattle.scrib_labelled.specs.Stages.{FailsEntry, OutputRelation, StageRelation, TakesEntry}
-use Rattle.scrib_labelled.proofs.LineEndLemmas.{gives_more, gives_put, line_failed, line_took, put_entry, took_nothing}
+use Rattle.scrib_labelled.proofs.LineEndLemmas.{gives_more, gives_put, line_failed, line_took, put_entry, same_label, took_nothing}
 use Rattle.scrib_labelled.proofs.RunLemmas.{none_taken}
 
 label-held : (kept : Option PutText) (t : Option LabelledText) → HoldsUnended kept t → HasLabel kept t
 label-held None None h = tt
 label-held None (Some t) h = absurd h
 label-held (Some k) None h = absurd h
-label-held (Some k) (Some t) h = (h.tag, h.session)
+label-held (Some k) (Some t) h = (h.tag, h.session, h.line)
 
 -- ---- the last line
 
@@ -140,7 +140,7 @@ last_goes_on {S} Took gathered old new text kept stage is other = (
       record {
         after = Some after;
         given = [];
-        label = subst (λ (x : Option PutText). HasLabel x (Some after)) (sym is) (held.tag, held.session);
+        label = subst (λ (x : Option PutText). HasLabel x (Some after)) (sym is) (held.tag, held.session, held.line);
         gives = λ whole entries s. (
           old.count.lines + 1 + 1,
           subst (λ (ls : List (List ℕ)). SpellsLabelledEntries old.options (whole ++ ls) (old.count.lines + 1 + 1) (Some after) (entries ++ [])) (sym (one_last part some no_lf))
@@ -170,8 +170,7 @@ text_none {S} Took gathered old new none stage = record {
 with-end : (text : PutText) (label : LineLabel) (after : Option LabelledText) (entries : List LabelledEntry) → IsPutLabel text label → HasLabel (Some text) after → entries ++ (label, entry.Item item.EndOfText) ∷ [] ≡ all_entries after entries
 with-end text label None entries is held = absurd held
 with-end text label (Some t) entries is held =
-    ap (λ (x : Option (List ℕ)). entries ++ (record { tag = x; session = label.session }, entry.Item item.EndOfText) ∷ []) (is.tag ∙ held.0)
-    ∙ ap (λ (x : Option (List ℕ × ℕ)). entries ++ (record { tag = t.label.tag; session = x }, entry.Item item.EndOfText) ∷ []) (is.session ∙ sym held.1)
+    sym (ap (λ (x : LineLabel). entries ++ (x, entry.Item item.EndOfText) ∷ []) (same_label label t.label.line t.label.tag t.label.session (is.line ∙ held.2) (is.tag ∙ held.0) (is.session ∙ sym held.1)))
 
 pub text_ended : {S : Type 0} (Took : StageRelation S) (gathered : S → List ℕ) (old new : LabelledRun S) (text : PutText) (label : LineLabel) → old.text ≡ Some text → IsPutLabel text label
     → TakesEntry Took gathered old.stage new.stage label (entry.Item item.EndOfText) → EndsText Took gathered old new

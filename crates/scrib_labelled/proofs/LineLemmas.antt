@@ -131,22 +131,20 @@ session_numbered b rest plain s k e parts h f = numbered_by_parts b rest plain s
 none-numbered : (names : SessionNames) (session : Option Session) → session ≡ None → IsNumbersOf names (session_of session)
 none-numbered names session s = subst (λ (x : Option Session). IsNumbersOf names (session_of x)) (sym s) tt
 
-pub rest_whole : (names : SessionNames) (named : Bool) (rest : List ℕ) (session : Option Session) (meaning : Line)
-    → (named ≡ false) ⊎ (id_field (fields rest) ≡ None) → Says rest meaning → session ≡ None → ReadsRest names named rest (session_of session) meaning
-rest_whole names named rest session meaning h says s = record {
+pub rest_whole : (names : SessionNames) (named : Bool) (rest : List ℕ) (meaning : Line) → (named ≡ false) ⊎ (id_field (fields rest) ≡ None) → Says rest meaning → ReadsRest names named rest None meaning
+rest_whole names named rest meaning h says = record {
   plain = rest;
-  numbered = subst (λ (x : Option Session). IsNumbered named rest (session_of x) rest) (sym s) (whole-numbered named rest h);
+  numbered = whole-numbered named rest h;
   says = says;
-  numbers = none-numbered names session s;
+  numbers = tt;
 }
 
-pub rest_bad : (names : SessionNames) (named : Bool) (rest field : List ℕ) (session : Option Session)
-    → named ≡ true → id_field (fields rest) ≡ Some field → is_session_name field ≡ false → session ≡ None → ReadsRest names named rest (session_of session) line.Bad
-rest_bad names named rest field session on f h s = record {
+pub rest_bad : (names : SessionNames) (named : Bool) (rest field : List ℕ) → named ≡ true → id_field (fields rest) ≡ Some field → is_session_name field ≡ false → ReadsRest names named rest None line.Bad
+rest_bad names named rest field on f h = record {
   plain = 63 ∷ [];
-  numbered = subst (λ (x : Option Session). IsNumbered named rest (session_of x) (63 ∷ [])) (sym s) (bad-numbered named rest field on f h);
+  numbered = bad-numbered named rest field on f h;
   says = bad-mark;
-  numbers = none-numbered names session s;
+  numbers = tt;
 }
 
 -- ---- what is read of a line that is no object
@@ -174,7 +172,7 @@ pub reads_long : (o : LabelOptions) (names : SessionNames) (whole : List ℕ) (p
     → ReadsAs o names whole parts line.Bad
 reads_long o names whole parts lines long t s = record {
   plain = 63 ∷ [];
-  stands = inl (omega (arith, long, limit-of-lines o lines), ap (λ (x : Option (Bor (List ℕ))). record { tag = bytes_of x; session = session_of parts.session }) t ∙ ap (λ (x : Option Session). record { tag = None; session = session_of x }) s, bad-mark);
+  stands = inl (omega (arith, long, limit-of-lines o lines), (ap bytes_of t, ap session_of s), bad-mark);
   says = bad-mark;
   numbers = none-numbered names parts.session s;
 }
@@ -240,7 +238,7 @@ body-of-put names (as_put replies text) session plain f h p = absurd h
 body-of-put names as_bad session plain f h p = h.0
 
 object-of-put : (names : Bool) (found : Option Spelled) (label : LineLabel) (plain : List ℕ) (f : Format) → IsObjectOf names found label plain → Puts (fields plain) f → label.session ≡ None
-object-of-put names None label plain f h p = ap (λ (l : LineLabel). l.session) h.0
+object-of-put names None label plain f h p = h.0.1
 object-of-put names (Some s) label plain f h p = body-of-put names s.body label.session plain f h.1 p
 
 line-of-put : (b : Bool) (o : LabelOptions) (whole : List ℕ) (label : LineLabel) (plain : List ℕ) (f : Format) → IsLineOf b o whole label plain → Puts (fields plain) f → label.session ≡ None
@@ -248,5 +246,5 @@ line-of-put false o whole label plain f h p = session-of-put o.names h.0 plain l
 line-of-put true o whole label plain f h p = object-of-put o.names h.0 label plain f h.2 p
 
 pub put_no_session : (o : LabelOptions) (whole : List ℕ) (label : LineLabel) (plain : List ℕ) (f : Format) → StandsFor o whole label plain → Says plain (line.Put f) → label.session ≡ None
-put_no_session o whole label plain f (inl h) says = ap (λ (l : LineLabel). l.session) h.1
+put_no_session o whole label plain f (inl h) says = h.1.1
 put_no_session o whole label plain f (inr h) says = line-of-put o.objects o whole label plain f h.1 says.1

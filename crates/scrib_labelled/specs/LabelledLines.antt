@@ -13,14 +13,15 @@ use Rattle.scrib_objects.specs.declared.object_options.ObjectOptions.{ObjectOpti
 use Rattle.scrib_objects.specs.Objects.{IsObjectLine, Spelled, Spelling, as_bad, as_line, as_put}
 use Rattle.scrib_labelled.specs.declared.label_options.LabelOptions.{LabelOptions}
 
--- the label of a line: its tag, and the name of its conversation with the number that stands for it
+-- the label of a line: its number, its tag, and the name of its conversation with the number that stands for the name
 pub record LineLabel : Type 0 where
+  pub line : ℕ
   pub tag : Option (List ℕ)
   pub session : Option (List ℕ × ℕ)
 
--- the label of a line without tag and name
-abbrev pub no_label : LineLabel
-no_label = record { tag = None; session = None }
+-- the label has no tag and no name
+abbrev pub IsUnlabelled : LineLabel → Type 0
+IsUnlabelled label = (label.tag ≡ None) × (label.session ≡ None)
 
 -- the fields with other bytes in the place of a conversation's number
 abbrev pub bare_with_id : List ℕ → List (List ℕ) → List (List ℕ)
@@ -71,9 +72,9 @@ IsObjectBody names (as_line bytes) session plain = IsNumbered names bytes sessio
 IsObjectBody names (as_put replies text) session plain = ⊥
 IsObjectBody names as_bad session plain = (session ≡ None) × Says plain line.Bad
 
--- the same with the label of the object; a line that is no object with a good tag is bad, and has none
+-- the same with the label of the object; a line that is no object with a good tag is bad, and has neither tag nor name
 abbrev pub IsObjectOf : (names : Bool) → Option Spelled → LineLabel → (plain : List ℕ) → Type 0
-IsObjectOf names None label plain = (label ≡ no_label) × Says plain line.Bad
+IsObjectOf names None label plain = IsUnlabelled label × Says plain line.Bad
 IsObjectOf names (Some s) label plain = (label.tag ≡ s.tag) × IsObjectBody names s.body label.session plain
 
 -- a line within the limit has this label, and stands for this one: as an object, or behind its tag
@@ -88,10 +89,10 @@ abbrev pub line_limit : LabelOptions → ℕ
 line_limit o = if o.objects then 8388608 else 131072
 
 -- The line has this label, and stands for this line of a script without labels. Both are without their ends. A longer
--- line than the limit is bad, and its label is not read.
+-- line than the limit is bad, and its tag and its name are not read.
 abbrev pub StandsFor : LabelOptions → (whole : List ℕ) → LineLabel → (plain : List ℕ) → Type 0
 StandsFor o whole label plain =
-    ((line_limit o < length whole) × (label ≡ no_label) × Says plain line.Bad)
+    ((line_limit o < length whole) × IsUnlabelled label × Says plain line.Bad)
     ⊎ ((length whole ≤ line_limit o) × IsLineOf o.objects o whole label plain)
 
 -- the line is an object with this label that puts a text, whose reply is printed in this format

@@ -21,22 +21,23 @@ pub record LabelledText : Type 0 where
   pub text : Text
   pub label : LineLabel
 
--- These first lines of a script with labels spell these items, each with the label of its line or of its put. The next
--- line has this number, outside module texts or after this much of one. Lines of module texts have no label.
+-- These first lines of a script with labels spell these items, each with the label of its line or of its put, which has
+-- the number of that line. The next line has this number, outside module texts or after this much of one. Lines of module
+-- texts have no label.
 pub data SpellsLabelled (o : LabelOptions)
     : List (List ℕ) → ℕ → Option LabelledText → List (LineLabel × Item) → Type 0 where
   no_line : SpellsLabelled o [] 1 None []
   skips : (ls : List (List ℕ)) (n : ℕ) (items : List (LineLabel × Item)) (l : List ℕ) (label : LineLabel)
-      → SpellsLabelled o ls n None items → SaysAs o (bare l) label line.Skipped
+      → SpellsLabelled o ls n None items → SaysAs o (bare l) label line.Skipped → label.line ≡ n
       → SpellsLabelled o (ls ++ l ∷ []) (n + 1) None items
   makes : (ls : List (List ℕ)) (n : ℕ) (items : List (LineLabel × Item)) (l : List ℕ) (label : LineLabel) (f : Format)
-      (s : Step) → SpellsLabelled o ls n None items → SaysAs o (bare l) label (line.Step f s)
+      (s : Step) → SpellsLabelled o ls n None items → SaysAs o (bare l) label (line.Step f s) → label.line ≡ n
       → SpellsLabelled o (ls ++ l ∷ []) (n + 1) None (items ++ (label, item.Step f s) ∷ [])
   is_bad : (ls : List (List ℕ)) (n : ℕ) (items : List (LineLabel × Item)) (l : List ℕ) (label : LineLabel)
-      → SpellsLabelled o ls n None items → SaysAs o (bare l) label line.Bad
+      → SpellsLabelled o ls n None items → SaysAs o (bare l) label line.Bad → label.line ≡ n
       → SpellsLabelled o (ls ++ l ∷ []) (n + 1) None (items ++ (label, item.BadLine n) ∷ [])
   begins : (ls : List (List ℕ)) (n : ℕ) (items : List (LineLabel × Item)) (l : List ℕ) (label : LineLabel) (f : Format)
-      → SpellsLabelled o ls n None items → SaysAs o (bare l) label (line.Put f)
+      → SpellsLabelled o ls n None items → SaysAs o (bare l) label (line.Put f) → label.line ≡ n
       → SpellsLabelled o (ls ++ l ∷ []) (n + 1) (Some (record { text = empty_text f; label = label })) items
   goes_on : (ls : List (List ℕ)) (n : ℕ) (items : List (LineLabel × Item)) (l : List ℕ) (t : LabelledText)
       → SpellsLabelled o ls n (Some t) items → bare l ≢ text_end
@@ -47,6 +48,7 @@ pub data SpellsLabelled (o : LabelOptions)
       (items ++ (t.label, item.Step t.text.format (Put (take 1_048_577 t.text.bytes))) ∷ [])
   puts_object : (ls : List (List ℕ)) (n : ℕ) (items : List (LineLabel × Item)) (l : List ℕ) (label : LineLabel)
       (f : Format) (text : List ℕ) → SpellsLabelled o ls n None items → IsPutObject o (bare l) label f text
+      → label.line ≡ n
       → SpellsLabelled o (ls ++ l ∷ []) (n + 1) None (items ++ (label, item.Step f (Put (take 1_048_577 text))) ∷ [])
 
 -- the items of a whole script: where it ends inside a module text, the last is that end

@@ -43,6 +43,10 @@ IsCutOf o cut l = (cut ≡ bare l) ⊎ ((line_limit o < length cut) × (line_lim
 abbrev pub of_cut : LabelOptions → (cut : List ℕ) → OfLines → Type 0
 of_cut o cut P = (l : List ℕ) → IsCutOf o cut l → P None l
 
+-- the label of the line of this number, which has this tag and names no conversation
+abbrev pub nameless : (n : ℕ) → (tag : Option (List ℕ)) → LineLabel
+nameless n tag = record { line = n; tag = tag; session = None }
+
 -- the lines outside module texts with this label and this meaning
 abbrev pub of_meaning : LabelOptions → LineLabel → Line → OfLines → Type 0
 of_meaning o label meaning P = (l : List ℕ) → SaysAs o (bare l) label meaning → P None l
@@ -133,6 +137,7 @@ pub record EndsBody {S : Type 0} (Took : StageRelation S) (gathered : S → List
 
 -- the label of the put of this text
 pub record IsPutLabel (text : PutText) (label : LineLabel) : Type 0 where
+  pub line : label.line ≡ text.line
   pub tag : label.tag ≡ tag_in text
   pub session : label.session ≡ None
 
@@ -159,7 +164,8 @@ pub record PutFails {S : Type 0} (Took : StageRelation S) (Part : OutputRelation
 -- the label of the module text that is read, if one is
 abbrev pub HasLabel : Option PutText → Option LabelledText → Type 0
 HasLabel None None = Unit {0}
-HasLabel (Some kept) (Some t) = (tag_in kept ≡ t.label.tag) × (t.label.session ≡ None)
+HasLabel (Some kept) (Some t) =
+    (tag_in kept ≡ t.label.tag) × (t.label.session ≡ None) × (kept.line ≡ t.label.line)
 HasLabel _ _ = ⊥
 
 -- what the last bytes of a script change, which no LF ended: there may be none

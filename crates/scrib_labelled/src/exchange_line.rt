@@ -7,6 +7,7 @@ ghost use Rattle.scrib_labelled.specs.ExchangeLines.{IsExchangeIn, IsExchangeLin
 ghost use Rattle.scrib_labelled.specs.LabelledLines.{IsUntagged};
 
 use crate::label_options::LabelOptions;
+use crate::script_line::ScriptLine;
 use scrib_labels::session_names::SessionNames;
 use scrib_labels::tag::{TagHead, begins_tag, tag_head};
 use scrib_script_reader::head::word_head_of;
@@ -17,6 +18,8 @@ use scrib_types::shared_event::SharedEvent;
 /// The line of an exchange, with its label.
 #[derive(Drop)]
 pub struct ExchangeLine<'a> {
+    /// The number of the line, from 1.
+    pub line: u64,
     /// The tag, if the line has one.
     pub tag: Option<&'a [u8]>,
     /// What a reply begins with for the tag.
@@ -52,17 +55,19 @@ pub(crate) fn exchange_line<'a>(
     reader: &mut Reader,
     names: &SessionNames,
     options: LabelOptions,
-    line: &'a [u8],
+    line: ScriptLine<'a>,
 ) -> Option<ExchangeLine<'a>>
     requires { options.objects ≡ false }
-    ensures { IfSome result (IsExchangeLine options names.now line.now) }
+    ensures exchange { IfSome result (IsExchangeLine options names.now line.entry.bytes.now) }
+    ensures line { IfSome result (λ e. e.line ≡ line.entry.number) }
 {
-    if line.len() > MAX_LINE_BYTES {
+    if line.bytes.len() > MAX_LINE_BYTES {
         return None;
     }
-    let head = line_head(options.tags, line)?;
+    let head = line_head(options.tags, line.bytes)?;
     let exchange = exchange_in(reader, names, options.names, head.rest)?;
     Some(ExchangeLine {
+        line: line.number,
         tag: head.tag,
         tag_text: head.tag_text,
         name: exchange.name,

@@ -13,6 +13,7 @@ use crate::line_parts::LineParts;
 use crate::line_reading::read_line;
 use crate::object_exchange::ObjectText;
 use crate::put_text::PutText;
+use crate::script_line::ScriptLine;
 use scrib_core::format::Format;
 use scrib_core::step::Step;
 use scrib_objects::object_reader::ObjectReader;
@@ -173,11 +174,17 @@ impl<S: EntryStage> LabelledRun<S> {
         ensures ok { OnOk result (PutsText S.Took S.gathered self.old self.new text) }
         ensures err { OnErr result (PutFails S.Took S.TookPart S.gathered self.old self.new text) }
     {
-        let PutText { bytes, format, tag } = text;
+        let PutText {
+            line,
+            bytes,
+            format,
+            tag,
+        } = text;
         let put = Step::Put {
             text: Items::from_vec(bytes),
         };
         let parts = LineParts {
+            line,
             tag: tag_of(&tag),
             session: None,
         };
@@ -196,12 +203,16 @@ impl<S: EntryStage> LabelledRun<S> {
         if self.options.objects {
             return self.end_object(line);
         }
+        let numbered = ScriptLine {
+            number: self.count.number(),
+            bytes: line,
+        };
         // most lines of a long script
         if let Some(exchange) = exchange_line(
             &mut self.reader,
             self.stage.names(),
             self.options,
-            line,
+            numbered,
         ) {
             return self.stage.note(exchange);
         }
@@ -232,12 +243,16 @@ impl<S: EntryStage> LabelledRun<S> {
         ensures err { OnErr result (FailsLine S.Took S.TookPart S.gathered self.old self.new
             (of_cut self.old.options line.now)) }
     {
+        let numbered = ScriptLine {
+            number: self.count.number(),
+            bytes: line,
+        };
         let (parts, meaning) = read_line(
             &mut self.reader,
             &mut self.plain,
             self.stage.names(),
             self.options,
-            line,
+            numbered,
         )?;
         self.end_meaning(parts, meaning)
     }
@@ -250,6 +265,7 @@ impl<S: EntryStage> LabelledRun<S> {
     ) -> Result<(), AllocError>
         requires text { self.old.text ≡ None }
         requires numbers { IsNumbersOf (S.names self.old.stage) (session_of parts.session) }
+        requires line { parts.line ≡ self.old.count.lines + 1 }
         ensures ok { OnOk result (EndsLine S.Took S.gathered self.old self.new
             (of_meaning self.old.options (label_of parts.entry) meaning)) }
         ensures err { OnErr result (FailsLine S.Took S.TookPart S.gathered self.old self.new
@@ -258,7 +274,7 @@ impl<S: EntryStage> LabelledRun<S> {
         match meaning {
             Line::Skipped => self.stage.take(Entry::Skipped, parts),
             Line::Put(format) => {
-                self.text = Some(PutText::new(self.alloc, format, parts.tag)?);
+                self.text = Some(PutText::new(self.alloc, parts.line, format, parts.tag)?);
                 Ok(())
             }
             Line::Step(format, step) => self
@@ -310,6 +326,7 @@ impl<S: EntryStage> LabelledRun<S> {
             return Ok(());
         };
         let parts = LineParts {
+            line: text.line,
             tag: tag_of(&text.tag),
             session: None,
         };

@@ -19,5 +19,6 @@ mod object_lines;
 mod piece_run;
 mod put_text;
 pub mod run_labelled_script;
+mod script_line;
 pub mod session_key;
 mod silent_run;

@@ -33,6 +33,7 @@ impl LineCount {
     }
 
     /// Returns the number of the current line, from 1.
+    #[inline(always)]
     pub(crate) fn number(&self) -> u64
         ensures { result ≡ self.now.lines + 1 }
     {

@@ -12,6 +12,8 @@ pub struct Session<'a> {
 /// The label of a line.
 #[derive(Clone, Copy)]
 pub struct LineParts<'a> {
+    /// The number of the line, from 1.
+    pub line: u64,
     /// The tag, if the line has one.
     pub tag: Option<&'a [u8]>,
     /// The conversation, if the line names one.

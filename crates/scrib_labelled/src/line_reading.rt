@@ -7,6 +7,7 @@ ghost use Rattle.scrib_labelled.specs.NamedLines.{ReadsAs, ReadsRest, session_of
 use crate::label_options::LabelOptions;
 use crate::labelled_line::{Named, Untagged, conversation_in, without_tag};
 use crate::line_parts::{LineParts, Session};
+use crate::script_line::ScriptLine;
 use scrib_labels::session_line::push_numbered_line;
 use scrib_labels::session_names::SessionNames;
 use scrib_script_reader::line::{Line, MAX_LINE_BYTES};
@@ -22,19 +23,33 @@ pub(crate) fn read_line<'a>(
     plain: &mut Vec<u8>,
     names: &SessionNames,
     options: LabelOptions,
-    line: &'a [u8],
+    line: ScriptLine<'a>,
 ) -> Result<(LineParts<'a>, Line), AllocError>
     requires { options.objects ≡ false }
-    ensures { IfOk result (λ r. ReadsAs options names.now line.now r.0 r.1) }
+    ensures reads { IfOk result (λ r. ReadsAs options names.now line.entry.bytes.now r.0 r.1) }
+    ensures line { IfOk result (λ r. r.0.line ≡ line.entry.number) }
 {
-    if line.len() > MAX_LINE_BYTES {
-        return Ok((unlabelled(None), Line::Bad));
+    let ScriptLine { number, bytes } = line;
+    if bytes.len() > MAX_LINE_BYTES {
+        let parts = LineParts {
+            line: number,
+            tag: None,
+            session: None,
+        };
+        return Ok((parts, Line::Bad));
     }
-    let untagged = without_tag(options.tags, line);
-    read_untagged(reader, plain, names, options.names, untagged)
+    let Untagged { tag, rest } = without_tag(options.tags, bytes);
+    let (session, meaning) = read_untagged(reader, plain, names, options.names, rest)?;
+    let parts = LineParts {
+        line: number,
+        tag,
+        session,
+    };
+    Ok((parts, meaning))
 }
 
-/// The same of a line without its tag, where conversations may have names.
+/// Returns the conversation that a line without its tag names, where conversations may have names, and the meaning of the
+/// line that it stands for. `plain` is scratch.
 ///
 /// # Errors
 /// As those of [`read_line`].
@@ -43,34 +58,20 @@ pub(crate) fn read_untagged<'a>(
     plain: &mut Vec<u8>,
     names: &SessionNames,
     named: bool,
-    untagged: Untagged<'a>,
-) -> Result<(LineParts<'a>, Line), AllocError>
-    ensures { IfOk result (λ r. (r.0.tag ≡ untagged.entry.tag)
-        × ReadsRest names.now named untagged.entry.rest.now (session_of r.0.session) r.1) }
+    rest: &'a [u8],
+) -> Result<(Option<Session<'a>>, Line), AllocError>
+    ensures { IfOk result (λ r. ReadsRest names.now named rest.now (session_of r.0) r.1) }
 {
-    let Untagged { tag, rest } = untagged;
     match conversation_in(named, rest) {
-        Named::Whole => Ok((unlabelled(tag), reader.line(rest)?)),
-        Named::Bad => Ok((unlabelled(tag), Line::Bad)),
+        Named::Whole => Ok((None, reader.line(rest)?)),
+        Named::Bad => Ok((None, Line::Bad)),
         Named::Session(line) => {
             let session = session_for(names, line.name)?;
             plain.clear();
             push_numbered_line(plain, line, session.number)?;
-            let parts = LineParts {
-                tag,
-                session: Some(session),
-            };
-            Ok((parts, reader.line(plain.as_slice())?))
+            Ok((Some(session), reader.line(plain.as_slice())?))
         }
     }
-}
-
-// The label of a line that names no conversation.
-fn unlabelled(tag: Option<&[u8]>) -> LineParts<'_>
-    ensures tag { result.tag ≡ tag.entry }
-    ensures session { result.session ≡ None }
-{
-    LineParts { tag, session: None }
 }
 
 // Returns the conversation of this name, with the number that stands for the name.

@@ -87,6 +87,7 @@ impl NamedMonitor {
             name,
             id,
             event,
+            ..
         } = line;
         let change = self.monitor.note(id, event, Label { tag, name }, tag_text)?;
         match change {

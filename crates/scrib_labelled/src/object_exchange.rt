@@ -9,6 +9,7 @@ ghost use Rattle.scrib_labelled.specs.ExchangeLines.{IsExchangeLine};
 use crate::exchange_line::{ExchangeLine, exchange_in};
 use crate::label_options::LabelOptions;
 use crate::object_lines::{MAX_OBJECT_BYTES, object_options};
+use crate::script_line::ScriptLine;
 use scrib_labels::session_names::SessionNames;
 use scrib_objects::exchange_members::exchange_in_any_order;
 use scrib_objects::exchange_object::{ExchangeObject, exchange_object};
@@ -34,21 +35,26 @@ pub(crate) fn object_exchange<'a>(
     names: &SessionNames,
     options: LabelOptions,
     text: &'a mut ObjectText,
-    line: &'a [u8],
+    line: ScriptLine<'a>,
 ) -> Option<ExchangeLine<'a>>
     requires { options.objects ≡ true }
-    ensures { IfSome result (IsExchangeLine options names.now line.now) }
+    ensures exchange { IfSome result (IsExchangeLine options names.now line.entry.bytes.now) }
+    ensures line { IfSome result (λ e. e.line ≡ line.entry.number) }
 {
-    if line.len() > MAX_OBJECT_BYTES {
+    if line.bytes.len() > MAX_OBJECT_BYTES {
         return None;
     }
-    let object = spelled_exchange(object_options(options), line)?;
+    let object = spelled_exchange(object_options(options), line.bytes)?;
     let Ok(()) = write_object(text, object) else {
         return None;
     };
-    let ObjectText { line, tag_text } = text;
-    let exchange = exchange_in(reader, names, options.names, line.as_slice())?;
+    let ObjectText {
+        line: plain,
+        tag_text,
+    } = text;
+    let exchange = exchange_in(reader, names, options.names, plain.as_slice())?;
     Some(ExchangeLine {
+        line: line.number,
         tag: object.tag,
         tag_text: tag_text.as_slice(),
         name: exchange.name,

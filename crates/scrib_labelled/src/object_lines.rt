@@ -7,12 +7,12 @@ ghost use Rattle.scrib_labelled.specs.ObjectLines.{IsObjectRead};
 
 use crate::entry_stage::EntryStage;
 use crate::label_options::LabelOptions;
-use crate::labelled_line::Untagged;
 use crate::labelled_run::{LabelledRun, tag_of};
 use crate::line_parts::LineParts;
 use crate::line_reading::read_untagged;
 use crate::object_exchange::object_exchange;
 use crate::put_text::PutText;
+use crate::script_line::ScriptLine;
 use scrib_objects::object_line::{ObjectBody, ObjectLine};
 use scrib_objects::object_options::ObjectOptions;
 use scrib_objects::object_reader::ObjectReader;
@@ -24,10 +24,10 @@ use std::alloc::AllocError;
 pub const MAX_OBJECT_BYTES: usize = 8_388_608;
 
 impl<S: EntryStage> LabelledRun<S> {
-    ghost use Rattle.std.specs.Prelude.{◌≡◌, true, OnOk, OnErr, None};
+    ghost use Rattle.std.specs.Prelude.{◌≡◌, ◌+◌, true, OnOk, OnErr, None};
     ghost use Rattle.scrib_report.specs.PutBack.{bytes_of};
     ghost use Rattle.scrib_script_reader.specs.declared.line.Line.TheVariants as line;
-    ghost use Rattle.scrib_labelled.specs.LineEnds.{EndsLine, FailsLine, of_cut, of_meaning, of_object};
+    ghost use Rattle.scrib_labelled.specs.LineEnds.{EndsLine, FailsLine, nameless, of_cut, of_meaning, of_object};
 
     // Takes a line outside module texts, given without its end, as an object.
     #[inline(never)]
@@ -39,13 +39,17 @@ impl<S: EntryStage> LabelledRun<S> {
         ensures err { OnErr result (FailsLine S.Took S.TookPart S.gathered self.old self.new
             (of_cut self.old.options line.now)) }
     {
+        let numbered = ScriptLine {
+            number: self.count.number(),
+            bytes: line,
+        };
         // most objects of a long script
         if let Some(exchange) = object_exchange(
             &mut self.reader,
             self.stage.names(),
             self.options,
             &mut self.object_text,
-            line,
+            numbered,
         ) {
             return self.stage.note(exchange);
         }
@@ -71,7 +75,13 @@ impl<S: EntryStage> LabelledRun<S> {
             ObjectBody::Put { format, text } => {
                 let mut bytes = text;
                 bytes.truncate(KEPT_TEXT_BYTES);
-                self.put(PutText { bytes, format, tag })
+                let number = self.count.number();
+                self.put(PutText {
+                    line: number,
+                    bytes,
+                    format,
+                    tag,
+                })
             }
             ObjectBody::Bad => self.end_bad_object(tag_of(&tag)),
         }
@@ -85,13 +95,18 @@ impl<S: EntryStage> LabelledRun<S> {
         ensures err { OnErr result (FailsLine S.Took S.TookPart S.gathered self.old self.new
             (of_object self.old.options (bytes_of tag.entry) line.now)) }
     {
-        let (parts, meaning) = read_untagged(
+        let (session, meaning) = read_untagged(
             &mut self.reader,
             &mut self.plain,
             self.stage.names(),
             self.options.names,
-            Untagged { tag, rest: line },
+            line,
         )?;
+        let parts = LineParts {
+            line: self.count.number(),
+            tag,
+            session,
+        };
         self.end_meaning(parts, meaning)
     }
 
@@ -99,11 +114,16 @@ impl<S: EntryStage> LabelledRun<S> {
     fn end_bad_object(&mut self, tag: Option<&[u8]>) -> Result<(), AllocError>
         requires { self.old.text ≡ None }
         ensures ok { OnOk result (EndsLine S.Took S.gathered self.old self.new
-            (of_meaning self.old.options (record { tag = bytes_of tag.entry; session = None }) line.Bad)) }
+            (of_meaning self.old.options (nameless (self.old.count.lines + 1) (bytes_of tag.entry)) line.Bad)) }
         ensures err { OnErr result (FailsLine S.Took S.TookPart S.gathered self.old self.new
-            (of_meaning self.old.options (record { tag = bytes_of tag.entry; session = None }) line.Bad)) }
+            (of_meaning self.old.options (nameless (self.old.count.lines + 1) (bytes_of tag.entry)) line.Bad)) }
     {
-        self.end_meaning(LineParts { tag, session: None }, Line::Bad)
+        let parts = LineParts {
+            line: self.count.number(),
+            tag,
+            session: None,
+        };
+        self.end_meaning(parts, Line::Bad)
     }
 }
 

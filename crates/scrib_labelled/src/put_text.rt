@@ -8,9 +8,10 @@ use scrib_core::format::Format;
 use scrib_script_reader::kept_bytes::{KEPT_TEXT_BYTES, append_up_to};
 use std::alloc::{AllocError, Global};
 
-/// A module text so far, as far as it is kept, with the format and the tag of its put.
+/// A module text so far, as far as it is kept, with the number, the format and the tag of its put's line.
 #[derive(Drop)]
 pub(crate) struct PutText {
+    pub(crate) line: u64,
     pub(crate) bytes: Vec<u8>,
     pub(crate) format: Format,
     pub(crate) tag: Option<Vec<u8>>,
@@ -23,18 +24,21 @@ impl PutText {
     /// `AllocError` where memory for the tag is refused.
     pub(crate) fn new(
         alloc: Global,
+        line: u64,
         format: Format,
         tag: Option<&[u8]>,
     ) -> Result<PutText, AllocError>
         ensures bytes { IfOk result (λ t. t.bytes.items ≡ []) }
         ensures format { IfOk result (λ t. t.format ≡ format) }
         ensures tag { IfOk result (λ t. tag_in t ≡ bytes_of tag.entry) }
+        ensures line { IfOk result (λ t. t.line ≡ line) }
     {
         let tag = match tag {
             Some(tag) => Some(Vec::from_slice(alloc, tag)?),
             None => None,
         };
         Ok(PutText {
+            line,
             bytes: Vec::new(alloc),
             format,
             tag,

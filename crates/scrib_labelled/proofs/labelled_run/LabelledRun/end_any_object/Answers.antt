@@ -7,8 +7,7 @@ use Rattle.scrib_objects.specs.declared.object_line.ObjectBody.TheVariants as bo
 use Rattle.scrib_objects.specs.declared.object_line.ObjectLine.{ObjectLine}
 use Rattle.scrib_report.specs.PutBack.{bytes_of}
 use Rattle.scrib_labelled.specs.declared.put_text.PutText.{PutText}
-use Rattle.scrib_labelled.specs.LabelledLines.{no_label}
-use Rattle.scrib_labelled.specs.LineEnds.{of_cut, of_meaning, of_object}
+use Rattle.scrib_labelled.specs.LineEnds.{nameless, of_cut, of_meaning, of_object}
 use Rattle.scrib_labelled.specs.ObjectLines.{IsObjectRead}
 use Rattle.scrib_labelled.proofs.LineEndLemmas.{ends_of, ends_one, fails_of, fails_one, fails_unread, gives_put_object, put_entry}
 use Rattle.scrib_labelled.proofs.ObjectLemmas.{read_some, says_bad_object, says_no_object, says_object, says_put_object}
@@ -25,8 +24,8 @@ returns-in_default-clause-ok g c =
     let old = c.args.self.now in
     let read = subst (λ (x : Option ObjectLine). IsObjectRead old.options c.args.line.now (option_map shown x)) c.in_default.is c.in_ok-object.ensures in
     on_ok_weaker c.end_bad_object.result
-    (ends_of g.S.EntryStage.Took g.S.EntryStage.gathered old c.end_bad_object.new.self (of_meaning old.options no_label line.Bad) (of_cut old.options c.args.line.now)
-    (λ P h l is. h l (says_no_object old.options c.args.line.now c.requires.objects read l is)))
+    (ends_of g.S.EntryStage.Took g.S.EntryStage.gathered old c.end_bad_object.new.self (of_meaning old.options (nameless (old.count.lines + 1) None) line.Bad) (of_cut old.options c.args.line.now)
+    (λ P h l is. h l (says_no_object old.options c.args.line.now (old.count.lines + 1) c.requires.objects read l is)))
     c.end_bad_object.ensures.ok
 
 pub returns-in_default-clause-err : goal.returns-in_default-clause-err
@@ -34,8 +33,8 @@ returns-in_default-clause-err g c =
     let old = c.args.self.now in
     let read = subst (λ (x : Option ObjectLine). IsObjectRead old.options c.args.line.now (option_map shown x)) c.in_default.is c.in_ok-object.ensures in
     on_err_weaker c.end_bad_object.result
-    (fails_of g.S.EntryStage.Took g.S.EntryStage.TookPart g.S.EntryStage.gathered old c.end_bad_object.new.self (of_meaning old.options no_label line.Bad) (of_cut old.options c.args.line.now)
-    (λ P h l is. h l (says_no_object old.options c.args.line.now c.requires.objects read l is)))
+    (fails_of g.S.EntryStage.Took g.S.EntryStage.TookPart g.S.EntryStage.gathered old c.end_bad_object.new.self (of_meaning old.options (nameless (old.count.lines + 1) None) line.Bad) (of_cut old.options c.args.line.now)
+    (λ P h l is. h l (says_no_object old.options c.args.line.now (old.count.lines + 1) c.requires.objects read l is)))
     c.end_bad_object.ensures.err
 
 pub returns-in-Line-clause-ok : goal.returns-in-Line-clause-ok
@@ -64,24 +63,24 @@ pub returns-in-Put-clause-ok : goal.returns-in-Put-clause-ok
 returns-in-Put-clause-ok g c =
     let old = c.args.self.now in
     let read = read_some old.options c.args.line.now c.in_ok-object.field-0 c.in-Some.object (body.Put c.in-Put.format c.in-Put.text) c.in-Some.is c.in-Put.is c.in_ok-object.ensures in
-    let text : PutText = record { bytes = c.truncate.new.self; format = c.in-Put.format; tag = c.in-Some.object.tag } in
+    let text : PutText = record { line = c.number-number.result; bytes = c.truncate.new.self; format = c.in-Put.format; tag = c.in-Some.object.tag } in
     on_ok_weaker c.put.result
     (λ h. ends_one g.S.EntryStage.Took g.S.EntryStage.gathered old c.put.new.self (of_cut old.options c.args.line.now) h.label (put_entry text.format text.bytes.items) (h.rest ∙ c.requires.text) h.same
     (λ P made l is. made None l
-    (gives_put_object old.options (old.count.lines + 1) l c.in-Put.text.items text h.label h.labelled c.truncate.ensures.items
-    (says_put_object old.options c.args.line.now (option_map (λ t. t.items) c.in-Some.object.tag) c.in-Put.format c.in-Put.text.items c.requires.objects read l is))) h.takes)
+    (gives_put_object old.options (old.count.lines + 1) l c.in-Put.text.items text h.label h.labelled c.number-number.ensures c.truncate.ensures.items
+    (says_put_object old.options c.args.line.now (old.count.lines + 1) (option_map (λ t. t.items) c.in-Some.object.tag) c.in-Put.format c.in-Put.text.items c.requires.objects read l is))) h.takes)
     c.put.ensures.ok
 
 pub returns-in-Put-clause-err : goal.returns-in-Put-clause-err
 returns-in-Put-clause-err g c =
     let old = c.args.self.now in
     let read = read_some old.options c.args.line.now c.in_ok-object.field-0 c.in-Some.object (body.Put c.in-Put.format c.in-Put.text) c.in-Some.is c.in-Put.is c.in_ok-object.ensures in
-    let text : PutText = record { bytes = c.truncate.new.self; format = c.in-Put.format; tag = c.in-Some.object.tag } in
+    let text : PutText = record { line = c.number-number.result; bytes = c.truncate.new.self; format = c.in-Put.format; tag = c.in-Some.object.tag } in
     on_err_weaker c.put.result
     (λ h. fails_one g.S.EntryStage.Took g.S.EntryStage.TookPart g.S.EntryStage.gathered old c.put.new.self (of_cut old.options c.args.line.now) h.label (put_entry text.format text.bytes.items)
     (λ P made l is. made None l
-    (gives_put_object old.options (old.count.lines + 1) l c.in-Put.text.items text h.label h.labelled c.truncate.ensures.items
-    (says_put_object old.options c.args.line.now (option_map (λ t. t.items) c.in-Some.object.tag) c.in-Put.format c.in-Put.text.items c.requires.objects read l is))) h.fails)
+    (gives_put_object old.options (old.count.lines + 1) l c.in-Put.text.items text h.label h.labelled c.number-number.ensures c.truncate.ensures.items
+    (says_put_object old.options c.args.line.now (old.count.lines + 1) (option_map (λ t. t.items) c.in-Some.object.tag) c.in-Put.format c.in-Put.text.items c.requires.objects read l is))) h.fails)
     c.put.ensures.err
 
 pub returns-in-Bad-clause-ok : goal.returns-in-Bad-clause-ok
@@ -90,8 +89,8 @@ returns-in-Bad-clause-ok g c =
     let read = read_some old.options c.args.line.now c.in_ok-object.field-0 c.in-Some.object body.Bad c.in-Some.is c.in-Bad.is c.in_ok-object.ensures in
     let tagged = subst (λ (t : Option (List ℕ)). IsObjectRead old.options c.args.line.now (Some (record { tag = t; body = as_bad }))) (sym c.tag_of-in-Bad.ensures) read in
     on_ok_weaker c.end_bad_object-in-Bad.result
-    (ends_of g.S.EntryStage.Took g.S.EntryStage.gathered old c.end_bad_object-in-Bad.new.self (of_meaning old.options (record { tag = bytes_of c.tag_of-in-Bad.result; session = None }) line.Bad) (of_cut old.options c.args.line.now)
-    (λ P h l is. h l (says_bad_object old.options c.args.line.now (bytes_of c.tag_of-in-Bad.result) c.requires.objects tagged l is)))
+    (ends_of g.S.EntryStage.Took g.S.EntryStage.gathered old c.end_bad_object-in-Bad.new.self (of_meaning old.options (nameless (old.count.lines + 1) (bytes_of c.tag_of-in-Bad.result)) line.Bad) (of_cut old.options c.args.line.now)
+    (λ P h l is. h l (says_bad_object old.options c.args.line.now (old.count.lines + 1) (bytes_of c.tag_of-in-Bad.result) c.requires.objects tagged l is)))
     c.end_bad_object-in-Bad.ensures.ok
 
 pub returns-in-Bad-clause-err : goal.returns-in-Bad-clause-err
@@ -100,6 +99,6 @@ returns-in-Bad-clause-err g c =
     let read = read_some old.options c.args.line.now c.in_ok-object.field-0 c.in-Some.object body.Bad c.in-Some.is c.in-Bad.is c.in_ok-object.ensures in
     let tagged = subst (λ (t : Option (List ℕ)). IsObjectRead old.options c.args.line.now (Some (record { tag = t; body = as_bad }))) (sym c.tag_of-in-Bad.ensures) read in
     on_err_weaker c.end_bad_object-in-Bad.result
-    (fails_of g.S.EntryStage.Took g.S.EntryStage.TookPart g.S.EntryStage.gathered old c.end_bad_object-in-Bad.new.self (of_meaning old.options (record { tag = bytes_of c.tag_of-in-Bad.result; session = None }) line.Bad) (of_cut old.options c.args.line.now)
-    (λ P h l is. h l (says_bad_object old.options c.args.line.now (bytes_of c.tag_of-in-Bad.result) c.requires.objects tagged l is)))
+    (fails_of g.S.EntryStage.Took g.S.EntryStage.TookPart g.S.EntryStage.gathered old c.end_bad_object-in-Bad.new.self (of_meaning old.options (nameless (old.count.lines + 1) (bytes_of c.tag_of-in-Bad.result)) line.Bad) (of_cut old.options c.args.line.now)
+    (λ P h l is. h l (says_bad_object old.options c.args.line.now (old.count.lines + 1) (bytes_of c.tag_of-in-Bad.result) c.requires.objects tagged l is)))
     c.end_bad_object-in-Bad.ensures.err

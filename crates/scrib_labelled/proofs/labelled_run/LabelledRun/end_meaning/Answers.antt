@@ -18,7 +18,7 @@ returns-in-Skipped-clause-ok g c =
     let label = label_of c.args.parts in
     on_ok_weaker c.take.result
     (ends_one g.S.EntryStage.Took g.S.EntryStage.gathered old (record old { stage = c.take.new.self }) (of_meaning old.options label c.args.meaning) label (entry.Skipped) c.requires.text (refl, refl, refl)
-    (λ P made l is. made None l (gives_skipped old.options (old.count.lines + 1) l label (subst (λ (m : Line). SaysAs old.options (bare l) label m) c.in-Skipped.is is))))
+    (λ P made l is. made None l (gives_skipped old.options (old.count.lines + 1) l label (subst (λ (m : Line). SaysAs old.options (bare l) label m) c.in-Skipped.is is) c.requires.line)))
     c.take.ensures.ok
 
 pub returns-in-Skipped-clause-err : goal.returns-in-Skipped-clause-err
@@ -27,7 +27,7 @@ returns-in-Skipped-clause-err g c =
     let label = label_of c.args.parts in
     on_err_weaker c.take.result
     (fails_one g.S.EntryStage.Took g.S.EntryStage.TookPart g.S.EntryStage.gathered old (record old { stage = c.take.new.self }) (of_meaning old.options label c.args.meaning) label (entry.Skipped)
-    (λ P made l is. made None l (gives_skipped old.options (old.count.lines + 1) l label (subst (λ (m : Line). SaysAs old.options (bare l) label m) c.in-Skipped.is is))))
+    (λ P made l is. made None l (gives_skipped old.options (old.count.lines + 1) l label (subst (λ (m : Line). SaysAs old.options (bare l) label m) c.in-Skipped.is is) c.requires.line)))
     c.take.ensures.err
 
 pub returns-in_ok-new-in-Put-clause-ok : goal.returns-in_ok-new-in-Put-clause-ok
@@ -39,8 +39,8 @@ returns-in_ok-new-in-Put-clause-ok g c =
       (refl, refl, refl),
       λ l is.
           line_begins g.S.EntryStage.Took old.options (old.count.lines + 1) old.stage l label c.in-Put.format c.in_ok-new-in-Put.field-0
-          c.in_ok-new-in-Put.ensures.bytes c.in_ok-new-in-Put.ensures.format c.in_ok-new-in-Put.ensures.tag
-          (subst (λ (m : Line). SaysAs old.options (bare l) label m) c.in-Put.is is),
+          c.in_ok-new-in-Put.ensures.bytes c.in_ok-new-in-Put.ensures.format c.in_ok-new-in-Put.ensures.tag c.in_ok-new-in-Put.ensures.line
+          (subst (λ (m : Line). SaysAs old.options (bare l) label m) c.in-Put.is is) c.requires.line,
     )
 
 pub returns-in_err-new-in-Put-clause-err : goal.returns-in_err-new-in-Put-clause-err
@@ -55,7 +55,7 @@ returns-in-Step-clause-ok g c =
     let label = label_of c.args.parts in
     on_ok_weaker c.take-in-Step.result
     (ends_one g.S.EntryStage.Took g.S.EntryStage.gathered old (record old { stage = c.take-in-Step.new.self }) (of_meaning old.options label c.args.meaning) label (entry.Item (item.Step c.in-Step.format c.in-Step.step)) c.requires.text (refl, refl, refl)
-    (λ P made l is. made None l (gives_step old.options (old.count.lines + 1) l label c.in-Step.format c.in-Step.step (subst (λ (m : Line). SaysAs old.options (bare l) label m) c.in-Step.is is))))
+    (λ P made l is. made None l (gives_step old.options (old.count.lines + 1) l label c.in-Step.format c.in-Step.step (subst (λ (m : Line). SaysAs old.options (bare l) label m) c.in-Step.is is) c.requires.line)))
     c.take-in-Step.ensures.ok
 
 pub returns-in-Step-clause-err : goal.returns-in-Step-clause-err
@@ -64,7 +64,7 @@ returns-in-Step-clause-err g c =
     let label = label_of c.args.parts in
     on_err_weaker c.take-in-Step.result
     (fails_one g.S.EntryStage.Took g.S.EntryStage.TookPart g.S.EntryStage.gathered old (record old { stage = c.take-in-Step.new.self }) (of_meaning old.options label c.args.meaning) label (entry.Item (item.Step c.in-Step.format c.in-Step.step))
-    (λ P made l is. made None l (gives_step old.options (old.count.lines + 1) l label c.in-Step.format c.in-Step.step (subst (λ (m : Line). SaysAs old.options (bare l) label m) c.in-Step.is is))))
+    (λ P made l is. made None l (gives_step old.options (old.count.lines + 1) l label c.in-Step.format c.in-Step.step (subst (λ (m : Line). SaysAs old.options (bare l) label m) c.in-Step.is is) c.requires.line)))
     c.take-in-Step.ensures.err
 
 pub returns-in-Bad-clause-ok : goal.returns-in-Bad-clause-ok
@@ -73,7 +73,7 @@ returns-in-Bad-clause-ok g c =
     let label = label_of c.args.parts in
     on_ok_weaker c.take-in-Bad.result
     (λ h. ends_one g.S.EntryStage.Took g.S.EntryStage.gathered old (record old { stage = c.take-in-Bad.new.self }) (of_meaning old.options label c.args.meaning) label (entry.Item (item.BadLine (old.count.lines + 1))) c.requires.text (refl, refl, refl)
-    (λ P made l is. made None l (gives_bad old.options (old.count.lines + 1) l label (subst (λ (m : Line). SaysAs old.options (bare l) label m) c.in-Bad.is is)))
+    (λ P made l is. made None l (gives_bad old.options (old.count.lines + 1) l label (subst (λ (m : Line). SaysAs old.options (bare l) label m) c.in-Bad.is is) c.requires.line))
     (subst (λ (n : ℕ). TakesEntry g.S.EntryStage.Took g.S.EntryStage.gathered old.stage c.take-in-Bad.new.self label (entry.Item (item.BadLine n))) c.number.ensures h))
     c.take-in-Bad.ensures.ok
 
@@ -83,6 +83,6 @@ returns-in-Bad-clause-err g c =
     let label = label_of c.args.parts in
     on_err_weaker c.take-in-Bad.result
     (λ h. fails_one g.S.EntryStage.Took g.S.EntryStage.TookPart g.S.EntryStage.gathered old (record old { stage = c.take-in-Bad.new.self }) (of_meaning old.options label c.args.meaning) label (entry.Item (item.BadLine (old.count.lines + 1)))
-    (λ P made l is. made None l (gives_bad old.options (old.count.lines + 1) l label (subst (λ (m : Line). SaysAs old.options (bare l) label m) c.in-Bad.is is)))
+    (λ P made l is. made None l (gives_bad old.options (old.count.lines + 1) l label (subst (λ (m : Line). SaysAs old.options (bare l) label m) c.in-Bad.is is) c.requires.line))
     (subst (λ (n : ℕ). FailsEntry g.S.EntryStage.Took g.S.EntryStage.TookPart g.S.EntryStage.gathered old.stage c.take-in-Bad.new.self label (entry.Item (item.BadLine n))) c.number.ensures h))
     c.take-in-Bad.ensures.err

@@ -1,4 +1,4 @@
-use Rattle.std.proofs.Common.{◌+◌, None, refl}
+use Rattle.std.proofs.Common.{◌∙◌, ◌+◌, None, refl}
 use Rattle.std.proofs.lemmas.Result.{on_err_weaker, on_ok_weaker}
 use Rattle.scrib_core.specs.declared.format.Format.TheVariants as format
 use Rattle.scrib_core.specs.declared.step.Step.TheVariants.{Note}
@@ -14,22 +14,22 @@ pub returns-in-Some-clause-ok : goal.returns-in-Some-clause-ok
 returns-in-Some-clause-ok g c =
     let old = c.args.self.now in
     let exchange = c.in-Some.exchange in
-    let is = c.in-Some.ensures in
+    let is = c.in-Some.ensures.exchange in
     let step = Note exchange.id exchange.event in
     on_ok_weaker c.note.result
     (ends_one g.S.EntryStage.Took g.S.EntryStage.gathered old (record old { stage = c.note.new.self }) (of_cut old.options c.args.line.now) (exchange_label exchange) (entry.Item (item.Step format.Line step)) c.requires.text (refl, refl, refl)
     (λ P made l cut. made None l (gives_step old.options (old.count.lines + 1) l (exchange_label exchange) format.Line step
-    (stands_cut old.options l c.args.line.now (exchange_label exchange) is.plain (line.Step format.Line step) cut is.stands is.says))))
+    (stands_cut old.options l c.args.line.now (exchange_label exchange) is.plain (line.Step format.Line step) cut is.stands is.says) (c.in-Some.ensures.line ∙ c.number.ensures))))
     c.note.ensures.ok
 
 pub returns-in-Some-clause-err : goal.returns-in-Some-clause-err
 returns-in-Some-clause-err g c =
     let old = c.args.self.now in
     let exchange = c.in-Some.exchange in
-    let is = c.in-Some.ensures in
+    let is = c.in-Some.ensures.exchange in
     let step = Note exchange.id exchange.event in
     on_err_weaker c.note.result
     (fails_one g.S.EntryStage.Took g.S.EntryStage.TookPart g.S.EntryStage.gathered old (record old { stage = c.note.new.self }) (of_cut old.options c.args.line.now) (exchange_label exchange) (entry.Item (item.Step format.Line step))
     (λ P made l cut. made None l (gives_step old.options (old.count.lines + 1) l (exchange_label exchange) format.Line step
-    (stands_cut old.options l c.args.line.now (exchange_label exchange) is.plain (line.Step format.Line step) cut is.stands is.says))))
+    (stands_cut old.options l c.args.line.now (exchange_label exchange) is.plain (line.Step format.Line step) cut is.stands is.says) (c.in-Some.ensures.line ∙ c.number.ensures))))
     c.note.ensures.err

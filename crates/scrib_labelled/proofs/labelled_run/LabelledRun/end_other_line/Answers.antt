@@ -18,7 +18,7 @@ returns-clause-ok g c =
     let meaning = c.in_ok-parts.meaning in
     on_ok_weaker c.end_meaning.result
     (ends_of g.S.EntryStage.Took g.S.EntryStage.gathered old c.end_meaning.new.self (of_meaning old.options (label_of parts) meaning) (of_cut old.options c.args.line.now)
-    (λ P h l is. h l (reads_cut old.options c.names.result.now l c.args.line.now parts meaning is c.in_ok-parts.ensures)))
+    (λ P h l is. h l (reads_cut old.options c.names.result.now l c.args.line.now parts meaning is c.in_ok-parts.ensures.reads)))
     c.end_meaning.ensures.ok
 
 pub returns-clause-err : goal.returns-clause-err
@@ -28,5 +28,5 @@ returns-clause-err g c =
     let meaning = c.in_ok-parts.meaning in
     on_err_weaker c.end_meaning.result
     (fails_of g.S.EntryStage.Took g.S.EntryStage.TookPart g.S.EntryStage.gathered old c.end_meaning.new.self (of_meaning old.options (label_of parts) meaning) (of_cut old.options c.args.line.now)
-    (λ P h l is. h l (reads_cut old.options c.names.result.now l c.args.line.now parts meaning is c.in_ok-parts.ensures)))
+    (λ P h l is. h l (reads_cut old.options c.names.result.now l c.args.line.now parts meaning is c.in_ok-parts.ensures.reads)))
     c.end_meaning.ensures.err

@@ -10,4 +10,5 @@ returns c = record {
       c.in_ok-append_up_to-2.ensures short ∙ ap (λ (t : List ℕ). take 1048577 (t ++ 10 ∷ [])) first;
   format = refl;
   tag = refl;
+  line = refl;
 }
