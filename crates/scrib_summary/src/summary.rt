@@ -1,6 +1,8 @@
 //! What the replies to a script come to.
 
 ghost use Rattle.std.specs.Prelude.{◌≡◌, IsTrue};
+ghost use Rattle.scrib_types.specs.declared.event.Told.TheVariants.{Judged};
+ghost use Rattle.scrib_types.specs.declared.event.Verdict.TheVariants.{Permitted};
 ghost use Rattle.scrib_summary.specs.Summaries as spec;
 
 use crate::verdict_counts::VerdictCounts;
@@ -63,9 +65,17 @@ impl Summary {
         self.note_offence(told);
     }
 
-    // Notes whether the verdict is an offence.
+    /// Counts an event that was noted and is permitted.
     #[inline(always)]
-    fn note_offence(&mut self, told: &Told)
+    pub fn count_permitted(&mut self)
+        ensures { self.new ≡ spec.with_event (Judged Permitted) self.old }
+    {
+        self.events = self.events.saturating_add(1);
+    }
+
+    /// Notes whether a verdict is an offence.
+    #[inline(always)]
+    pub fn note_offence(&mut self, told: &Told)
         ensures { self.new ≡ spec.with_told told.now self.old }
     {
         if matches!(told, Told::Judged(Verdict::Offence { .. })) {
