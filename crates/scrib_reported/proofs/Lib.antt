@@ -1,0 +1,6 @@
+mod KeptLemmas
+mod OffenceLemmas
+mod ReportLemmas
+mod StepLemmas
+mod EntryLemmas
+mod OutputLemmas

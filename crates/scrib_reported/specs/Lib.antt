@@ -1,0 +1,6 @@
+pub mod Kept
+pub mod FoundOffences
+pub mod ReportedReplies
+pub mod ReportedRuns
+pub mod Monitors
+pub mod StageLaws
