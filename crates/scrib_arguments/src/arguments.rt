@@ -81,6 +81,12 @@ fn close_complete_arg<'a>(alloc: Global) -> Arg<'a> {
     flag_arg(alloc, "close-complete", help)
 }
 
+fn report_arg<'a>(alloc: Global) -> Arg<'a> {
+    let help =
+        "Print offences with their reason, their ends and refusals, in place of the replies to events; not with --hold";
+    flag_arg(alloc, "report", help)
+}
+
 fn id_arg<'a>(alloc: Global) -> Arg<'a> {
     let help = "The conversation's number in the script; with --names its name";
     value_arg(alloc, "ID", help)
@@ -189,6 +195,7 @@ fn watch_command<'a>(alloc: Global) -> Result<Command<'a>, AllocError> {
         .after_help(help::WATCH)
         .arg(json_arg(alloc))?
         .arg(hold_arg(alloc))?
+        .arg(unheld(report_arg(alloc))?)?
         .arg(unheld(close_complete_arg(alloc))?)?
         .arg(names_arg(alloc))?
         .arg(tags_arg(alloc))?

@@ -81,6 +81,13 @@ Lines of a script:
 Each line is answered before the next one is read. With --hold an event is
 answered once it is released, and standard error has the counts at the end:
   scribmon: 5400 events, 812 waited, at most 31 at once, 0 released by the limit
+With --report only this is printed of events, openings and turns: an offence,
+once, with its reason, its end after an edit, and a line that was refused:
+  offence in conversation 1 at event 3, line 14: recv A B hello(): NotSent; B
+  waits for A?hello()
+  no offence any more in conversation 1, line 90: permitted
+  refused in line 12, conversation 9: NoConversation
+`scribmon show --help` has the reasons.
 With --close-complete the reply to an event or a turn by which a conversation
 is complete is followed by that to a close of it.
 With --names each ID is a word of letters, digits and `_ . : -`, as in:
@@ -90,10 +97,11 @@ With --tags a line may begin with a tag, and its reply then does:
 With --input json each line is one JSON object, as in:
   {\"do\":\"send\",\"from\":\"A\",\"id\":1,\"message\":\"hello()\",\"to\":\"B\"}
   {\"do\":\"put\",\"text\":\"module demo; ..\"}
-These three go together, and with --hold or --close-complete.
+These three go together, and with --report, --hold or --close-complete.
 
-Example:
+Examples:
   scribmon watch examples/01_hello/receive_before_send.script
+  scribmon watch --report examples/01_hello/receive_before_send.script
 
 Exit status:
   0  the script was read to its end; refusals and offences are replies

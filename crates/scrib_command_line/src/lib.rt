@@ -6,6 +6,7 @@ mod held_scripts;
 mod labelled_scripts;
 mod outcomes;
 pub mod pipe_output;
+mod reported_scripts;
 mod request;
 pub mod run_command_line;
 mod run_files;

@@ -36,13 +36,18 @@ pub(crate) fn limits_of(matches: &ArgMatches) -> Limits
     }
 }
 
-// How the lines of the script are spelled, where it is not a script of plain lines.
-pub(crate) fn labels_of(matches: &ArgMatches) -> Option<LabelOptions> {
-    let labels = LabelOptions {
+// How the lines of the script are spelled.
+pub(crate) fn spelling_of(matches: &ArgMatches) -> LabelOptions {
+    LabelOptions {
         tags: matches.get_flag("tags"),
         names: matches.get_flag("names"),
         objects: matches.get_str("input") == Some("json"),
-    };
+    }
+}
+
+// The same, where it is not a script of plain lines.
+pub(crate) fn labels_of(matches: &ArgMatches) -> Option<LabelOptions> {
+    let labels = spelling_of(matches);
     if labels.tags || labels.names || labels.objects {
         Some(labels)
     } else {

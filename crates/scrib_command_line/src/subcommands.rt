@@ -4,6 +4,7 @@ use crate::closing_scripts::watch_closing;
 use crate::held_scripts::watch_held;
 use crate::labelled_scripts::{report_labelled, watch_labelled};
 use crate::outcomes::{flush_and_print_fault, refuse_value};
+use crate::reported_scripts::watch_reported;
 use crate::request::{format_of, labels_of, limits_of, number_of, profile_of, query_of, shape_of};
 use crate::run_command_line::Streams;
 use crate::run_files::{RunScripts, run_files};
@@ -73,6 +74,9 @@ pub(crate) fn run_watch<R: Files + AllocGlobal, I: Input, W: Write, E: Print + E
 ) -> u8 {
     if let Some(bound) = matches.get_str("hold") {
         return watch_held(system, streams, matches, bound);
+    }
+    if matches.get_flag("report") {
+        return watch_reported(system, streams, matches);
     }
     if let Some(labels) = labels_of(matches) {
         return watch_labelled(system, streams, matches, labels);
