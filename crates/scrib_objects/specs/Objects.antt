@@ -78,6 +78,7 @@ keys_of word =
     else if bytes_eq word (codes "turn") then Some (codes "id" ∷ [])
     else if bytes_eq word (codes "ask") then Some (codes "id" ∷ [])
     else if bytes_eq word (codes "close") then Some (codes "id" ∷ [])
+    else if bytes_eq word (codes "sweep") then Some []
     else None
 
 -- the fields with one blank between them

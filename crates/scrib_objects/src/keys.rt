@@ -14,6 +14,7 @@ pub(crate) fn keys_of(word: &str) -> Option<&'static [&'static str]>
         "join" => Some(&["id", "role"]),
         "send" | "recv" => Some(&["id", "from", "to", "message"]),
         "turn" | "ask" | "close" => Some(&["id"]),
+        "sweep" => Some(&[]),
         _ => None,
     }
 }

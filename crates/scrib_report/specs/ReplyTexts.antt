@@ -1,12 +1,14 @@
 -- The texts of an output in both formats (this project's own).
-use Rattle.std.specs.Prelude.{ℕ, List}
+use Rattle.std.specs.Prelude.{ℕ, List, Option, Some, None}
 use Rattle.scrib_core.specs.declared.ended.Ended.{Ended}
 use Rattle.scrib_core.specs.declared.format.Format.{Format}
 use Rattle.scrib_core.specs.declared.format.Format.TheVariants as format
 use Rattle.scrib_core.specs.declared.reply.Reply.{Reply}
+use Rattle.scrib_core.specs.declared.reply.Reply.TheVariants as reply
+use Rattle.scrib_core.specs.declared.reply.Refusal.TheVariants.{OutOfMemory}
 use Rattle.scrib_report.specs.JsonOutput.{part_json}
 use Rattle.scrib_report.specs.LineOutput.{part_line}
-use Rattle.scrib_report.specs.Parts.{Part, reply_part, bad_part, end_part, connection_part, fault_part, table_part}
+use Rattle.scrib_report.specs.Parts.{Part, reply_part, swept_part, bad_part, end_part, connection_part, fault_part, table_part}
 
 -- what is written for a part in this format
 abbrev pub part_text : Format → Part → List ℕ
@@ -16,6 +18,11 @@ part_text format.Json p = part_json p
 -- what is written for a reply in this format
 abbrev pub reply_text : Format → Reply → List ℕ
 reply_text f r = part_text f (reply_part r)
+
+-- what is written for a sweep: how many conversations it judged, or the refusal of a turn, where memory was refused
+abbrev pub swept_text : Format → Option ℕ → List ℕ
+swept_text f (Some judged) = part_text f (swept_part judged)
+swept_text f None = reply_text f (reply.Refused OutOfMemory)
 
 -- what is written for a bad line of this number, from 1
 abbrev pub bad_line : Format → ℕ → List ℕ

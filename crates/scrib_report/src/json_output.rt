@@ -33,6 +33,12 @@ pub(crate) fn push_json_part(out: &mut Vec<u8>, part: &OutputPart<'_>) -> Result
             conversation,
             place,
         } => push_object(out, mismatch_json(alloc, *conversation, *place)?.as_slice()),
+        OutputPart::Swept(judged) => push_numbered(
+            out,
+            b"{\"judged\":",
+            *judged,
+            b",\"swept\":true}\n",
+        ),
         OutputPart::BadLine(number) => push_numbered(
             out,
             b"{\"line\":",

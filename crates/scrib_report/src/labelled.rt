@@ -37,6 +37,30 @@ pub fn push_labelled_reply(
     }
 }
 
+/// Appends the reply to a sweep that judged so many conversations, in this format and with this tag.
+///
+/// # Errors
+/// `AllocError` where memory is refused.
+pub fn push_labelled_swept(
+    out: &mut Vec<u8>,
+    judged: u64,
+    format: Format,
+    tag: Option<&[u8]>,
+) -> Result<(), AllocError>
+    ensures { OnOk result (out.new.items ≡ out.old.items
+        ++ spec.labelled_swept format (bytes_of tag.entry) judged) }
+{
+    let label = Label { tag, name: None };
+    match format {
+        Format::Line => push_labelled_part(out, &OutputPart::Swept(judged), label),
+        Format::Json => {
+            let alloc = *out.allocator();
+            let value = json!(in alloc; {"judged": judged, "swept": true})?;
+            push_labelled_object(out, value, label)
+        }
+    }
+}
+
 /// Appends the report of a bad line of this number in this format and with this tag.
 ///
 /// # Errors

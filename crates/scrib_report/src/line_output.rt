@@ -49,6 +49,7 @@ pub(crate) fn push_line_part(out: &mut Vec<u8>, part: &OutputPart<'_>) -> Result
             conversation,
             place,
         } => push_mismatch(out, *conversation, *place),
+        OutputPart::Swept(judged) => push_numbered(out, b"sweep: ", *judged, b" judged\n"),
         OutputPart::BadLine(number) => push_bad_line(out, *number),
         OutputPart::EndOfText => push_bytes(out, b"refused EndOfText\n"),
         OutputPart::Connection(number) => push_numbered(out, b"connection ", *number, b"\n"),

@@ -13,6 +13,8 @@ pub enum OutputPart<'a> {
     Judged { id: u32, verdict: &'a Told },
     /// The refusal of a pass whose receipt differs from the log of this conversation at this place.
     Mismatch { conversation: u32, place: usize },
+    /// The reply to a sweep: how many conversations it judged.
+    Swept(u64),
     /// A line of this number, from 1, that is no step.
     BadLine(u64),
     /// The end of a script inside a module text.

@@ -23,9 +23,9 @@ use Rattle.scrib_script_reader.specs.declared.line.Line.{Line}
 use Rattle.scrib_script_reader.specs.declared.line.Line.TheVariants as line
 use Rattle.scrib_script_reader.specs.Fields.{fields, Finds, IsNumberText, is_dotted, IsDottedText, IsMessageText, IsOperatorText, IsPayloadText, IsCut}
 use Rattle.scrib_script_reader.specs.Steps.{IsExchange, MakesWithId, Edits, MakesStep}
-use Rattle.scrib_script_reader.specs.Says.{Says, IsSkipped, IsPutLine, Asks}
+use Rattle.scrib_script_reader.specs.Says.{Says, IsSkipped, IsPutLine, IsSweepLine, Asks}
 use Rattle.scrib_script_reader.proofs.Pieces.{pieces, dotted-pieces, dotted-read, payload-pieces, payload-read}
-use Rattle.scrib_script_reader.proofs.Formats.{no_put, no_step}
+use Rattle.scrib_script_reader.proofs.Formats.{no_put, no_sweep, no_step}
 use Rattle.scrib_script_reader.proofs.MessageTexts.{message-cut, cut-message, cut-once}
 use Rattle.scrib_script_reader.proofs.Steps.{no-open, no-join, no-send, no-recv, no-turn, no-ask, no-close, no-word, no-short, no-withdraw, no-profile, no-number, found-edit, found-step}
 
@@ -423,13 +423,14 @@ is_skipped [] = inl tt
 is_skipped ([] ∷ fs) = inr (λ h. h)
 is_skipped ((b ∷ bs) ∷ fs) = same_byte b 35
 
-is_put : (fs : List (List ℕ)) → Decided (IsPutLine fs)
-is_put [] = inr (λ e. let h : [] ≡ codes "put" ∷ [] = e in cc)
-is_put (word ∷ []) = elim (same_bytes word (codes "put")) [
+-- the only field is this word
+is_only : (only : List ℕ) (fs : List (List ℕ)) → Decided (fs ≡ only ∷ [])
+is_only only [] = inr (λ e. let h : [] ≡ only ∷ [] = e in cc)
+is_only only (word ∷ []) = elim (same_bytes word only) [
   | inl e ↦ inl (ap (λ (w : List ℕ). w ∷ []) e)
-  | inr n ↦ inr (λ e. n (let h : word ∷ [] ≡ codes "put" ∷ [] = e in cc))
+  | inr n ↦ inr (λ e. n (let h : word ∷ [] ≡ only ∷ [] = e in cc))
 ]
-is_put (a ∷ b ∷ fs) = inr (λ e. let h : a ∷ b ∷ fs ≡ codes "put" ∷ [] = e in cc)
+is_only only (a ∷ b ∷ fs) = inr (λ e. let h : a ∷ b ∷ fs ≡ only ∷ [] = e in cc)
 
 -- the format that fields ask for
 abbrev Asked : List (List ℕ) → Type 0
@@ -442,12 +443,13 @@ asked (word ∷ fs) = elim (same_bytes word (codes "json")) [
   | inr n ↦ (format.Line, word ∷ fs, (refl, λ more e. n (let h : word ∷ fs ≡ codes "json" ∷ more = e in cc)))
 ]
 
-decided_within : (bytes : List ℕ) → length bytes ≤ 131072 → Decided (IsSkipped (fields bytes)) → (a : Asked (fields bytes)) → Decided (IsPutLine a.1) → (o : Option Step) → Finds (MakesStep a.1) o → (meaning : Line) × Says bytes meaning
-decided_within bytes fits (inl s) a p o k = (line.Skipped, (fits, s))
-decided_within bytes fits (inr ns) a (inl p) o k = (line.Put a.0, (fits, (a.1, a.2, p)))
-decided_within bytes fits (inr ns) a (inr np) None none =
-    (line.Bad, inr (ns, no_put (fields bytes) a.1 a.0 a.2 np, no_step (fields bytes) a.1 a.0 a.2 none))
-decided_within bytes fits (inr ns) a (inr np) (Some s) k = (line.Step a.0 s, (fits, (a.1, a.2, k)))
+decided_within : (bytes : List ℕ) → length bytes ≤ 131072 → Decided (IsSkipped (fields bytes)) → (a : Asked (fields bytes)) → Decided (IsPutLine a.1) → Decided (IsSweepLine a.1) → (o : Option Step) → Finds (MakesStep a.1) o → (meaning : Line) × Says bytes meaning
+decided_within bytes fits (inl s) a p w o k = (line.Skipped, (fits, s))
+decided_within bytes fits (inr ns) a (inl p) w o k = (line.Put a.0, (fits, (a.1, a.2, p)))
+decided_within bytes fits (inr ns) a (inr np) (inl w) o k = (line.Sweep a.0, (fits, (a.1, a.2, w)))
+decided_within bytes fits (inr ns) a (inr np) (inr nw) None none =
+    (line.Bad, inr (ns, no_put (fields bytes) a.1 a.0 a.2 np, no_sweep (fields bytes) a.1 a.0 a.2 nw, no_step (fields bytes) a.1 a.0 a.2 none))
+decided_within bytes fits (inr ns) a (inr np) (inr nw) (Some s) k = (line.Step a.0 s, (fits, (a.1, a.2, k)))
 
 -- the meaning of a line
 pub line_decided : (bytes : List ℕ) → (meaning : Line) × Says bytes meaning
@@ -456,5 +458,5 @@ line_decided bytes = elim (cases_lt 131072 (length bytes)) [
   | inr fits ↦
       let a = asked (fields bytes) in
       let made = step_found a.1 in
-      decided_within bytes fits (is_skipped (fields bytes)) a (is_put a.1) made.0 made.1
+      decided_within bytes fits (is_skipped (fields bytes)) a (is_only (codes "put") a.1) (is_only (codes "sweep") a.1) made.0 made.1
 ]

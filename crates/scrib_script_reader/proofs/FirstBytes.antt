@@ -12,7 +12,7 @@ use Rattle.scrib_script_reader.specs.Fields.{fields, is_blank, has_bytes}
 use Rattle.scrib_script_reader.specs.Steps.{MakesStep}
 use Rattle.scrib_script_reader.specs.Says.{Says, IsSkipped, Asks}
 use Rattle.scrib_script_reader.specs.FirstBytes.{may_begin}
-use Rattle.scrib_script_reader.proofs.Formats.{no_put, no_step}
+use Rattle.scrib_script_reader.proofs.Formats.{no_put, no_sweep, no_step}
 use Rattle.scrib_script_reader.proofs.Steps.{no-edit, no-word, no-short}
 
 -- the field is the first byte alone, or goes on with the second one
@@ -95,6 +95,9 @@ module _ (x y : ℕ) (never : may_begin x y ≡ false) (field : List ℕ) (begin
   no-put-line : (others : List (List ℕ)) → field ∷ others ≡ codes "put" ∷ [] → ⊥
   no-put-line others e = other-word x y 112 117 (codes "t") field never refl begins (let word : field ≡ codes "put" = cc in word)
 
+  no-sweep-line : (others : List (List ℕ)) → field ∷ others ≡ codes "sweep" ∷ [] → ⊥
+  no-sweep-line others e = other-word x y 115 119 (codes "eep") field never refl begins (let word : field ≡ codes "sweep" = cc in word)
+
 bad : (bytes : List ℕ) (x y : ℕ) → may_begin x y ≡ false → HasFirst x y (fields bytes) → Says bytes line.Bad
 bad bytes x y never h =
     let fs = h.field ∷ h.others in
@@ -102,6 +105,7 @@ bad bytes x y never h =
     inr (
       λ s. no-comment x y h.field h.others never h.begins (subst IsSkipped h.parts s),
       λ f p. no_put fs fs format.Line asks (no-put-line x y never h.field h.begins h.others) f (rw (sym h.parts) p),
+      λ f p. no_sweep fs fs format.Line asks (no-sweep-line x y never h.field h.begins h.others) f (rw (sym h.parts) p),
       λ f s m. no_step fs fs format.Line asks (no-step-made x y never h.field h.begins h.others) f s (rw (sym h.parts) m),
     )
 

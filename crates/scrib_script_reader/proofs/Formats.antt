@@ -4,7 +4,7 @@ use Rattle.scrib_core.specs.declared.step.Step.{Step}
 use Rattle.scrib_core.specs.declared.format.Format.{Format}
 use Rattle.scrib_core.specs.declared.format.Format.TheVariants as format
 use Rattle.scrib_script_reader.specs.Steps.{MakesStep}
-use Rattle.scrib_script_reader.specs.Says.{Asks, IsPutLine, Puts, MakesIn}
+use Rattle.scrib_script_reader.specs.Says.{Asks, IsPutLine, IsSweepLine, Puts, Sweeps, MakesIn}
 
 -- the fields after the format are determined
 asks_once : (fs a b : List (List ℕ)) (f g : Format) → Asks fs f a → Asks fs g b → a ≡ b
@@ -16,6 +16,9 @@ asks_once fs a b format.Json format.Json h k = let e : codes "json" ∷ a ≡ co
 module _ (fs rest : List (List ℕ)) (f : Format) (asks : Asks fs f rest) where
   pub no_put : (IsPutLine rest → ⊥) → (g : Format) → Puts fs g → ⊥
   no_put none g h = none (subst IsPutLine (asks_once fs h.0 rest g f h.1 asks) h.2)
+
+  pub no_sweep : (IsSweepLine rest → ⊥) → (g : Format) → Sweeps fs g → ⊥
+  no_sweep none g h = none (subst IsSweepLine (asks_once fs h.0 rest g f h.1 asks) h.2)
 
   pub no_step : ((s : Step) → MakesStep rest s → ⊥) → (g : Format) (s : Step) → MakesIn fs g s → ⊥
   no_step none g s h = none s (subst (λ (t : List (List ℕ)). MakesStep t s) (asks_once fs h.0 rest g f h.1 asks) h.2)

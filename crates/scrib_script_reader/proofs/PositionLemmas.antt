@@ -11,7 +11,7 @@ use Rattle.scrib_script_reader.specs.declared.item.Item.{Item}
 use Rattle.scrib_script_reader.specs.declared.item.Item.TheVariants as item
 use Rattle.scrib_script_reader.specs.Scripts as script
 use Rattle.scrib_script_reader.specs.Scripts.{NoLf, Text, with_line, Spells, lines, bare, text_end}
-use Rattle.scrib_script_reader.specs.Entries.{SpellsEntries, ends, skips, makes, is_bad, begins, goes_on, puts, stops, entry_items}
+use Rattle.scrib_script_reader.specs.Entries.{SpellsEntries, ends, skips, makes, sweeps, is_bad, begins, goes_on, puts, stops, entry_items}
 use Rattle.scrib_script_reader.specs.Positions.{Position, SpellsFrom, LeadsFrom, begun_text, entries_of}
 use Rattle.scrib_script_reader.proofs.Decisions.{same_bytes, line_decided}
 use Rattle.scrib_script_reader.proofs.Bytes.{lines_lf, lines_last}
@@ -21,6 +21,7 @@ pub spells_items : {n : ℕ} {text : Option Text} {ls : List (List ℕ)} {entrie
 spells_items (ends n) = script.ends n
 spells_items (skips n l ls es says more) = script.skips n l ls (entry_items es) says (spells_items more)
 spells_items (makes n l ls es f s says more) = script.makes n l ls (entry_items es) f s says (spells_items more)
+spells_items (sweeps n l ls es f says more) = script.sweeps n l ls (entry_items es) f says (spells_items more)
 spells_items (is_bad n l ls es says more) = script.is_bad n l ls (entry_items es) says (spells_items more)
 spells_items (begins n l ls es f says more) = script.begins n l ls (entry_items es) f says (spells_items more)
 spells_items (goes_on n t l ls es ne more) = script.goes_on n t l ls (entry_items es) ne (spells_items more)
@@ -39,6 +40,7 @@ pub spells_line : (n : ℕ) (l : List ℕ) (ls : List (List ℕ)) (word : Line) 
 spells_line n l ls line.Skipped rest says more = skips n l ls rest says more
 spells_line n l ls (line.Put f) rest says more = begins n l ls rest f says more
 spells_line n l ls (line.Step f s) rest says more = makes n l ls rest f s says more
+spells_line n l ls (line.Sweep f) rest says more = sweeps n l ls rest f says more
 spells_line n l ls line.Bad rest says more = is_bad n l ls rest says more
 
 -- the lines give some entries, outside module texts and inside one

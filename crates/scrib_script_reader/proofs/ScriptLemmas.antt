@@ -38,6 +38,7 @@ says_long : (a b : List ℕ) (meaning : Line) → 131072 < length a → 131072 <
 says_long a b line.Skipped la lb s = absurd (omega (arith, s.0))
 says_long a b (line.Put f) la lb s = absurd (omega (arith, s.0))
 says_long a b (line.Step f t) la lb s = absurd (omega (arith, s.0))
+says_long a b (line.Sweep f) la lb s = absurd (omega (arith, s.0))
 says_long a b line.Bad la lb s = inl lb
 
 -- the kept part of a line has the meaning of the line
@@ -82,6 +83,7 @@ begun_text_kept : (word : Line) → begun_text word ≡ option_map cut (begun_te
 begun_text_kept line.Skipped = refl
 begun_text_kept (line.Put f) = ap (λ (bytes : List ℕ). Some (record { bytes = bytes; format = f })) (sym (take_of_none 1048577))
 begun_text_kept (line.Step f s) = refl
+begun_text_kept (line.Sweep f) = refl
 begun_text_kept line.Bad = refl
 
 -- two stretches of bytes, one after the other
@@ -370,6 +372,7 @@ spells_end : (next n : ℕ) (word : Line) → (rest : List Entry) × SpellsEntri
 spells_end next n line.Skipped = ([], ends next, refl)
 spells_end next n (line.Put f) = (entry.Item item.EndOfText ∷ [], stops next (empty_text f), refl)
 spells_end next n (line.Step f s) = ([], ends next, refl)
+spells_end next n (line.Sweep f) = ([], ends next, refl)
 spells_end next n line.Bad = ([], ends next, refl)
 
 -- a module text that does not end spells `EndOfText`

@@ -31,6 +31,9 @@ pub data SpellsEntries : ℕ → Option Text → List (List ℕ) → List Entry 
   makes : (n : ℕ) (l : List ℕ) (ls : List (List ℕ)) (entries : List Entry) (f : Format) (s : Step)
       → Says (bare l) (line.Step f s) → SpellsEntries (n + 1) None ls entries
       → SpellsEntries n None (l ∷ ls) (entry.Item (item.Step f s) ∷ entries)
+  sweeps : (n : ℕ) (l : List ℕ) (ls : List (List ℕ)) (entries : List Entry) (f : Format)
+      → Says (bare l) (line.Sweep f) → SpellsEntries (n + 1) None ls entries
+      → SpellsEntries n None (l ∷ ls) (entry.Item (item.Sweep f) ∷ entries)
   is_bad : (n : ℕ) (l : List ℕ) (ls : List (List ℕ)) (entries : List Entry) → Says (bare l) line.Bad
       → SpellsEntries (n + 1) None ls entries → SpellsEntries n None (l ∷ ls) (entry.Item (item.BadLine n) ∷ entries)
   begins : (n : ℕ) (l : List ℕ) (ls : List (List ℕ)) (entries : List Entry) (f : Format)

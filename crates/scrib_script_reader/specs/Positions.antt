@@ -147,6 +147,7 @@ abbrev pub begun_text : Line → Option Text
 begun_text line.Skipped = None
 begun_text (line.Put f) = Some (empty_text f)
 begun_text (line.Step f s) = None
+begun_text (line.Sweep f) = None
 begun_text line.Bad = None
 
 -- the entries that a line of this number and meaning gives: one, or none
@@ -154,6 +155,7 @@ abbrev pub entries_of : ℕ → Line → List Entry
 entries_of n line.Skipped = entry.Skipped ∷ []
 entries_of n (line.Put f) = []
 entries_of n (line.Step f s) = entry.Item (item.Step f s) ∷ []
+entries_of n (line.Sweep f) = entry.Item (item.Sweep f) ∷ []
 entries_of n line.Bad = entry.Item (item.BadLine n) ∷ []
 
 -- the entries that it gives where it is the last line: a module text that begins after it does not end
@@ -161,6 +163,7 @@ abbrev pub last_entries : ℕ → Line → List Entry
 last_entries n line.Skipped = entry.Skipped ∷ []
 last_entries n (line.Put f) = entry.Item item.EndOfText ∷ []
 last_entries n (line.Step f s) = entry.Item (item.Step f s) ∷ []
+last_entries n (line.Sweep f) = entry.Item (item.Sweep f) ∷ []
 last_entries n line.Bad = entry.Item (item.BadLine n) ∷ []
 
 -- After a line inside a module text, of which this much is kept: the line ends the text, which is put, or the text

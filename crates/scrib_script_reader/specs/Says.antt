@@ -27,6 +27,14 @@ IsPutLine fs = fs ≡ codes "put" ∷ []
 abbrev pub Puts : List (List ℕ) → Format → Type 0
 Puts fs f = (rest : List (List ℕ)) × Asks fs f rest × IsPutLine rest
 
+-- the only field is `sweep`
+abbrev pub IsSweepLine : List (List ℕ) → Type 0
+IsSweepLine fs = fs ≡ codes "sweep" ∷ []
+
+-- the fields ask for this format, and the one after it is `sweep`
+abbrev pub Sweeps : List (List ℕ) → Format → Type 0
+Sweeps fs f = (rest : List (List ℕ)) × Asks fs f rest × IsSweepLine rest
+
 -- the fields ask for this format, and those after it make the step
 abbrev pub MakesIn : List (List ℕ) → Format → Step → Type 0
 MakesIn fs f s = (rest : List (List ℕ)) × Asks fs f rest × MakesStep rest s
@@ -36,8 +44,10 @@ abbrev pub Says : List ℕ → Line → Type 0
 Says bytes line.Skipped = (length bytes ≤ 131072) × IsSkipped (fields bytes)
 Says bytes (line.Put f) = (length bytes ≤ 131072) × Puts (fields bytes) f
 Says bytes (line.Step f s) = (length bytes ≤ 131072) × MakesIn (fields bytes) f s
+Says bytes (line.Sweep f) = (length bytes ≤ 131072) × Sweeps (fields bytes) f
 Says bytes line.Bad =
     (131072 < length bytes)
     ⊎ ((IsSkipped (fields bytes) → ⊥)
     × ((f : Format) → Puts (fields bytes) f → ⊥)
+    × ((f : Format) → Sweeps (fields bytes) f → ⊥)
     × ((f : Format) (s : Step) → MakesIn (fields bytes) f s → ⊥))

@@ -64,6 +64,8 @@ pub data Spells : ℕ → Option Text → List (List ℕ) → List Item → Type
       → Says (bare l) line.Skipped → Spells (n + 1) None ls items → Spells n None (l ∷ ls) items
   makes : (n : ℕ) (l : List ℕ) (ls : List (List ℕ)) (items : List Item) (f : Format) (s : Step)
       → Says (bare l) (line.Step f s) → Spells (n + 1) None ls items → Spells n None (l ∷ ls) (item.Step f s ∷ items)
+  sweeps : (n : ℕ) (l : List ℕ) (ls : List (List ℕ)) (items : List Item) (f : Format)
+      → Says (bare l) (line.Sweep f) → Spells (n + 1) None ls items → Spells n None (l ∷ ls) (item.Sweep f ∷ items)
   is_bad : (n : ℕ) (l : List ℕ) (ls : List (List ℕ)) (items : List Item)
       → Says (bare l) line.Bad → Spells (n + 1) None ls items → Spells n None (l ∷ ls) (item.BadLine n ∷ items)
   begins : (n : ℕ) (l : List ℕ) (ls : List (List ℕ)) (items : List Item) (f : Format)
@@ -75,9 +77,15 @@ pub data Spells : ℕ → Option Text → List (List ℕ) → List Item → Type
       → Spells n (Some text) (l ∷ ls) (item.Step text.format (Put (take 1_048_577 text.bytes)) ∷ items)
   stops : (n : ℕ) (text : Text) → Spells n (Some text) [] (item.EndOfText ∷ [])
 
--- the steps among what is spelled
-abbrev pub steps_of : List Item → List Step
-steps_of [] = []
-steps_of (item.Step f s ∷ items) = s ∷ steps_of items
-steps_of (item.BadLine n ∷ items) = steps_of items
-steps_of (item.EndOfText ∷ items) = steps_of items
+-- what an item asks for: a step, or a sweep of the stale conversations
+pub data Request : Type 0 where
+  ToMake : Step → Request
+  ToSweep : Request
+
+-- what the items ask for
+abbrev pub requests_of : List Item → List Request
+requests_of [] = []
+requests_of (item.Step f s ∷ items) = ToMake s ∷ requests_of items
+requests_of (item.Sweep f ∷ items) = ToSweep ∷ requests_of items
+requests_of (item.BadLine n ∷ items) = requests_of items
+requests_of (item.EndOfText ∷ items) = requests_of items

@@ -8,6 +8,8 @@ use scrib_core::step::Step;
 pub enum Item {
     /// A step, and the format of its reply.
     Step(Format, Step),
+    /// A sweep: turns of every stale conversation. Its reply is printed in this format.
+    Sweep(Format),
     /// A line that is no step, no comment and not empty: its number, from 1.
     BadLine(u64),
     /// The script ends inside a module text.

@@ -2,7 +2,7 @@
 
 ghost use Rattle.std.specs.Prelude.{◌≡◌, ◌≤◌, ◌↔◌, ◌∷◌, ◌++◌, IfOk, IfSome, IsTrue, map, length, codes};
 ghost use Rattle.scrib_core.specs.declared.step.Step.TheVariants.{Turn};
-ghost use Rattle.scrib_script_reader.specs.Says.{Says, IsSkipped, IsPutLine, Asks};
+ghost use Rattle.scrib_script_reader.specs.Says.{Says, IsSkipped, IsPutLine, IsSweepLine, Asks};
 ghost use Rattle.scrib_core.specs.declared.format.Format.TheVariants as format;
 ghost use Rattle.scrib_script_reader.specs.declared.line.Line.TheVariants as line;
 
@@ -26,6 +26,8 @@ pub enum Line {
     Put(Format),
     /// A step, and the format of its reply.
     Step(Format, Step),
+    /// A sweep, and the format of its reply.
+    Sweep(Format),
     /// None of these.
     Bad,
 }
@@ -59,6 +61,9 @@ fn line_by_fields(alloc: Global, bytes: &[u8]) -> Result<Line, AllocError>
     let (format, words) = format_of(fields);
     if is_put(words) {
         return Ok(Line::Put(format));
+    }
+    if is_sweep(words) {
+        return Ok(Line::Sweep(format));
     }
     match step_of(alloc, words)? {
         Some(step) => Ok(Line::Step(format, step)),
@@ -111,6 +116,15 @@ fn is_put(fields: &[&[u8]]) -> bool
 {
     match fields {
         [word] => *word == b"put".as_slice(),
+        _ => false,
+    }
+}
+
+fn is_sweep(fields: &[&[u8]]) -> bool
+    ensures { IsTrue result ↔ IsSweepLine (map (λ field. field.now) fields.now) }
+{
+    match fields {
+        [word] => *word == b"sweep".as_slice(),
         _ => false,
     }
 }

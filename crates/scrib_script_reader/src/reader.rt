@@ -74,6 +74,21 @@ impl Reader {
         Ok(Some((head.id, event)))
     }
 
+    /// Returns the same of a line that is spelled as an exchange or as a join with single blanks around its id.
+    ///
+    /// # Errors
+    /// `AllocError` where memory for the event is refused.
+    #[inline(always)]
+    pub fn note(&mut self, bytes: &[u8]) -> Result<Option<(u32, SharedEvent)>, AllocError>
+        ensures { IfOk result (λ found. IfSome found
+            (λ note. Says bytes.now (line.Step format.Line (Note note.0 note.1)))) }
+    {
+        match self.exchange(bytes)? {
+            Some(note) => Ok(Some(note)),
+            None => self.join(bytes),
+        }
+    }
+
     /// Returns the event of an exchange that begins so: the same for each word in the place of an id. None where the text
     /// after the word spells no exchange.
     ///

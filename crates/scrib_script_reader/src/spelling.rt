@@ -29,6 +29,7 @@ pub(crate) fn entry_of(line: Line, number: u64, alloc: Global) -> (Option<Entry>
             (None, Some(KeptText { bytes, format }))
         }
         Line::Step(format, step) => (Some(Entry::Item(Item::Step(format, step))), None),
+        Line::Sweep(format) => (Some(Entry::Item(Item::Sweep(format))), None),
         Line::Bad => (Some(Entry::Item(Item::BadLine(number))), None),
     }
 }
@@ -41,6 +42,7 @@ pub(crate) fn last_entry_of(line: Line, number: u64) -> Entry
         Line::Skipped => Entry::Skipped,
         Line::Put(_) => Entry::Item(Item::EndOfText),
         Line::Step(format, step) => Entry::Item(Item::Step(format, step)),
+        Line::Sweep(format) => Entry::Item(Item::Sweep(format)),
         Line::Bad => Entry::Item(Item::BadLine(number)),
     }
 }
