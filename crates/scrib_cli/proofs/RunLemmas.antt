@@ -8,17 +8,16 @@ use Rattle.std.proofs.lemmas.List.Elements.{All-nil, All-cons, All-append}
 use Rattle.scrib_core.specs.declared.step.Step.{Step}
 use Rattle.scrib_core.specs.declared.step.Step.TheVariants.{Put, Withdraw, Open, Note, Turn, Ask, Close}
 use Rattle.scrib_core.specs.declared.step.Step.TheVariants as step
-use Rattle.scrib_core.specs.declared.reply.Reply.{Reply}
 use Rattle.scrib_core.specs.declared.reply.Reply.TheVariants.{Refused}
 use Rattle.scrib_core.specs.declared.reply.Refusal.TheVariants.{OutOfMemory}
 use Rattle.scrib_core.specs.World.{World, Refuses}
-use Rattle.scrib_core.specs.Answers.{State, initial, Answers}
+use Rattle.scrib_core.specs.Answers.{State, initial}
 use Rattle.scrib_core.specs.Held.{state_of}
 use Rattle.scrib_core.specs.declared.format.Format.{Format}
 use Rattle.scrib_script_reader.specs.declared.item.Item.{Item}
 use Rattle.scrib_script_reader.specs.declared.item.Item.TheVariants as item
 use Rattle.scrib_script_reader.specs.declared.script.Script.{Script}
-use Rattle.scrib_script_reader.specs.Scripts.{Spells, lines, steps_of, item_list}
+use Rattle.scrib_script_reader.specs.Scripts.{Request, ToMake, ToSweep, Spells, lines, requests_of, item_list}
 use Rattle.scrib_script_reader.specs.Positions.{Holds, TakesBytes, TakesFront, PassesLimits, EndSpells, HasConsumed}
 use Rattle.scrib_script_reader.specs.declared.limits.Limits.{Limits}
 use Rattle.scrib_script_reader.specs.Limits.{IsPast}
@@ -27,7 +26,9 @@ use Rattle.scrib_script_reader.proofs.ScriptLemmas.{read_none, read_more, read_a
 use Rattle.scrib_cli.specs.declared.run.ScriptRun.{ScriptRun}
 use Rattle.scrib_cli.specs.declared.output_mode.OutputMode.{OutputMode}
 use Rattle.scrib_cli.specs.declared.output_mode.OutputMode.TheVariants.{Printed, Silent}
-use Rattle.scrib_report.specs.ReplyTexts.{bad_line, end_of_text, reply_format, reply_text}
+use Rattle.scrib_report.specs.ReplyTexts.{bad_line, end_of_text, reply_format}
+use Rattle.scrib_sweep.proofs.SweepSteps.{sweep_none}
+use Rattle.scrib_cli.specs.Requests.{RequestReply, OfStep, OfSweep, request_reply_text, AnswersRequests}
 use Rattle.scrib_cli.specs.Scripts.{written}
 use Rattle.scrib_cli.specs.Progress.{IsPartOutput, RunFailsOn, RunFails, HasProgressed, IsNew, RunAdvances, PieceFails, PassesLimitIn, EndSucceeds, EndFails, ItemDoes, IsCarriedOut, WasCarriedOut, shown_bytes, items_shown, output_format, reply_shown, GoesOn}
 use Rattle.scrib_script_io.specs.Writes.{AppendsPart}
@@ -44,34 +45,41 @@ refuses_memory w (Turn id) = tt
 refuses_memory w (Ask id) = tt
 refuses_memory w (Close id) = tt
 
--- any steps have replies, by which each is refused memory
-abbrev pub refused : List Step → List Reply
+-- any requests have replies, by which each is refused memory
+abbrev pub refused : List Request → List RequestReply
 refused [] = []
-refused (s ∷ ss) = Refused OutOfMemory ∷ refused ss
+refused (ToMake s ∷ ss) = OfStep (Refused OutOfMemory) ∷ refused ss
+refused (ToSweep ∷ ss) = OfSweep None ∷ refused ss
 
-answers_refused : (w : State) (ss : List Step) → Answers w ss (refused ss) w
+answers_refused : (w : State) (ss : List Request) → AnswersRequests w ss (refused ss) w
 answers_refused w [] = refl
-answers_refused w (s ∷ ss) = (w, (refuses_memory w.world s, refl), answers_refused w ss)
+answers_refused w (ToMake s ∷ ss) = (w, (refuses_memory w.world s, refl), answers_refused w ss)
+answers_refused w (ToSweep ∷ ss) = (w, (0, sweep_none w), answers_refused w ss)
 
-pub answers_more : (w v u : State) (ss ts : List Step) (rs qs : List Reply) → Answers w ss rs v → Answers v ts qs u → Answers w (ss ++ ts) (rs ++ qs) u
-answers_more w v u [] ts [] qs a b = subst (λ (x : State). Answers x ts qs u) a b
+pub answers_more : (w v u : State) (ss ts : List Request) (rs qs : List RequestReply) → AnswersRequests w ss rs v → AnswersRequests v ts qs u → AnswersRequests w (ss ++ ts) (rs ++ qs) u
+answers_more w v u [] ts [] qs a b = subst (λ (x : State). AnswersRequests x ts qs u) a b
 answers_more w v u [] ts (r ∷ rs) qs a b = absurd a
 answers_more w v u (s ∷ ss) ts [] qs a b = absurd a
 answers_more w v u (s ∷ ss) ts (r ∷ rs) qs a b = (a.0, a.1, answers_more a.0 v u ss ts rs qs a.2 b)
 
-pub steps_more : (items more : List Item) → steps_of (items ++ more) ≡ steps_of items ++ steps_of more
-steps_more [] more = refl
-steps_more (item.Step f s ∷ items) more = ap (λ (ss : List Step). s ∷ ss) (steps_more items more)
-steps_more (item.BadLine n ∷ items) more = steps_more items more
-steps_more (item.EndOfText ∷ items) more = steps_more items more
+pub requests_more : (items more : List Item) → requests_of (items ++ more) ≡ requests_of items ++ requests_of more
+requests_more [] more = refl
+requests_more (item.Step f s ∷ items) more = ap (λ (ss : List Request). ToMake s ∷ ss) (requests_more items more)
+requests_more (item.Sweep f ∷ items) more = ap (λ (ss : List Request). ToSweep ∷ ss) (requests_more items more)
+requests_more (item.BadLine n ∷ items) more = requests_more items more
+requests_more (item.EndOfText ∷ items) more = requests_more items more
 
-pub written_more : (o : Format) (items more : List Item) (rs qs : List Reply) (w v : State) → Answers w (steps_of items) rs v
+pub written_more : (o : Format) (items more : List Item) (rs qs : List RequestReply) (w v : State) → AnswersRequests w (requests_of items) rs v
     → written o (items ++ more) (rs ++ qs) ≡ written o items rs ++ written o more qs
 written_more o [] more [] qs w v a = refl
 written_more o [] more (r ∷ rs) qs w v a = absurd a
 written_more o (item.Step f s ∷ items) more [] qs w v a = absurd a
 written_more o (item.Step f s ∷ items) more (r ∷ rs) qs w v a =
-    let text = reply_text (reply_format o f) r in
+    let text = request_reply_text (reply_format o f) r in
+    ap (λ (u : List ℕ). text ++ u) (written_more o items more rs qs a.0 v a.2) ∙ sym (append_assoc text (written o items rs) (written o more qs))
+written_more o (item.Sweep f ∷ items) more [] qs w v a = absurd a
+written_more o (item.Sweep f ∷ items) more (r ∷ rs) qs w v a =
+    let text = request_reply_text (reply_format o f) r in
     ap (λ (u : List ℕ). text ++ u) (written_more o items more rs qs a.0 v a.2) ∙ sym (append_assoc text (written o items rs) (written o more qs))
 written_more o (item.BadLine n ∷ items) more rs qs w v a =
     let text = bad_line o n in
@@ -88,44 +96,50 @@ shown_none : (t : OutputMode) → [] ≡ shown_bytes t []
 shown_none (Printed o) = refl
 shown_none Silent = refl
 
-pub items_shown_more : (t : OutputMode) (items more : List Item) (rs qs : List Reply) (w v : State) → Answers w (steps_of items) rs v
+pub items_shown_more : (t : OutputMode) (items more : List Item) (rs qs : List RequestReply) (w v : State) → AnswersRequests w (requests_of items) rs v
     → items_shown t (items ++ more) (rs ++ qs) ≡ items_shown t items rs ++ items_shown t more qs
 items_shown_more t items more rs qs w v a =
     let o = output_format t in
     ap (shown_bytes t) (written_more (output_format t) items more rs qs w v a) ∙ shown_both t (written o items rs) (written o more qs)
 
 -- what is written for an item is what is written for the list of it
-pub does_shown : (t : OutputMode) (i : Item) (w v : State) (rs : List Reply) (out : List ℕ) → ItemDoes t i w rs v out → out ≡ items_shown t (i ∷ []) rs
+pub does_shown : (t : OutputMode) (i : Item) (w v : State) (rs : List RequestReply) (out : List ℕ) → ItemDoes t i w rs v out → out ≡ items_shown t (i ∷ []) rs
 does_shown t (item.Step f s) w v rs out d =
-    let text = reply_text (reply_format (output_format t) f) d.0 in
-    let one : items_shown t (item.Step f s ∷ []) (d.0 ∷ []) ≡ reply_shown t f d.0 = ap (shown_bytes t) (append-nil text) in
+    let text = request_reply_text (reply_format (output_format t) f) (OfStep d.0) in
+    let one : items_shown t (item.Step f s ∷ []) (OfStep d.0 ∷ []) ≡ reply_shown t f (OfStep d.0) = ap (shown_bytes t) (append-nil text) in
     d.4 ∙ sym one ∙ ap (items_shown t (item.Step f s ∷ [])) (sym d.1)
+does_shown t (item.Sweep f) w v rs out d =
+    let text = request_reply_text (reply_format (output_format t) f) (OfSweep d.0) in
+    let one : items_shown t (item.Sweep f ∷ []) (OfSweep d.0 ∷ []) ≡ reply_shown t f (OfSweep d.0) = ap (shown_bytes t) (append-nil text) in
+    d.4 ∙ sym one ∙ ap (items_shown t (item.Sweep f ∷ [])) (sym d.1)
 does_shown t (item.BadLine n) w v rs out d = d.2 ∙ ap (shown_bytes t) (sym (append-nil (bad_line (output_format t) n)))
 does_shown t item.EndOfText w v rs out d = d.2 ∙ ap (shown_bytes t) (sym (append-nil (end_of_text (output_format t))))
 
-pub does_answers : (t : OutputMode) (i : Item) (w v : State) (rs : List Reply) (out : List ℕ) → ItemDoes t i w rs v out → Answers w (steps_of (i ∷ [])) rs v
-does_answers t (item.Step f s) w v rs out d = subst (λ (qs : List Reply). Answers w (s ∷ []) qs v) (sym d.1) (v, d.2, refl)
-does_answers t (item.BadLine n) w v rs out d = subst (λ (qs : List Reply). Answers w [] qs v) (sym d.0) d.1
-does_answers t item.EndOfText w v rs out d = subst (λ (qs : List Reply). Answers w [] qs v) (sym d.0) d.1
+pub does_answers : (t : OutputMode) (i : Item) (w v : State) (rs : List RequestReply) (out : List ℕ) → ItemDoes t i w rs v out → AnswersRequests w (requests_of (i ∷ [])) rs v
+does_answers t (item.Step f s) w v rs out d = subst (λ (qs : List RequestReply). AnswersRequests w (ToMake s ∷ []) qs v) (sym d.1) (v, d.2, refl)
+does_answers t (item.Sweep f) w v rs out d = subst (λ (qs : List RequestReply). AnswersRequests w (ToSweep ∷ []) qs v) (sym d.1) (v, d.2, refl)
+does_answers t (item.BadLine n) w v rs out d = subst (λ (qs : List RequestReply). AnswersRequests w [] qs v) (sym d.0) d.1
+does_answers t item.EndOfText w v rs out d = subst (λ (qs : List RequestReply). AnswersRequests w [] qs v) (sym d.0) d.1
 
-does_go_on : (t : OutputMode) (i : Item) (w v : State) (rs : List Reply) (out : List ℕ) → ItemDoes t i w rs v out → All (GoesOn t) rs
-does_go_on t (item.Step f s) w v rs out d = subst (λ (qs : List Reply). All (GoesOn t) qs) (sym d.1) (All-cons (GoesOn t) d.0 [] d.3 (All-nil (GoesOn t)))
-does_go_on t (item.BadLine n) w v rs out d = subst (λ (qs : List Reply). All (GoesOn t) qs) (sym d.0) (All-nil (GoesOn t))
-does_go_on t item.EndOfText w v rs out d = subst (λ (qs : List Reply). All (GoesOn t) qs) (sym d.0) (All-nil (GoesOn t))
+does_go_on : (t : OutputMode) (i : Item) (w v : State) (rs : List RequestReply) (out : List ℕ) → ItemDoes t i w rs v out → All (GoesOn t) rs
+does_go_on t (item.Step f s) w v rs out d = subst (λ (qs : List RequestReply). All (GoesOn t) qs) (sym d.1) (All-cons (GoesOn t) (OfStep d.0) [] d.3 (All-nil (GoesOn t)))
+does_go_on t (item.Sweep f) w v rs out d = subst (λ (qs : List RequestReply). All (GoesOn t) qs) (sym d.1) (All-cons (GoesOn t) (OfSweep d.0) [] d.3 (All-nil (GoesOn t)))
+does_go_on t (item.BadLine n) w v rs out d = subst (λ (qs : List RequestReply). All (GoesOn t) qs) (sym d.0) (All-nil (GoesOn t))
+does_go_on t item.EndOfText w v rs out d = subst (λ (qs : List RequestReply). All (GoesOn t) qs) (sym d.0) (All-nil (GoesOn t))
 
 -- What was written for some items, which led to a state.
 record WrittenFor (t : OutputMode) (items : List Item) (v : State) (out : List ℕ) : Type 0 where
-  pub replies : List Reply
-  pub answered : Answers initial (steps_of items) replies v
+  pub replies : List RequestReply
+  pub answered : AnswersRequests initial (requests_of items) replies v
   pub goes_on : All (GoesOn t) replies
   pub is : out ≡ items_shown t items replies
 
-written_further : (t : OutputMode) (items : List Item) (i : Item) (w v : State) (replies rs : List Reply) (x out : List ℕ)
-    → Answers initial (steps_of items) replies w → All (GoesOn t) replies → x ≡ items_shown t items replies → ItemDoes t i w rs v out → WrittenFor t (items ++ i ∷ []) v (x ++ out)
+written_further : (t : OutputMode) (items : List Item) (i : Item) (w v : State) (replies rs : List RequestReply) (x out : List ℕ)
+    → AnswersRequests initial (requests_of items) replies w → All (GoesOn t) replies → x ≡ items_shown t items replies → ItemDoes t i w rs v out → WrittenFor t (items ++ i ∷ []) v (x ++ out)
 written_further t items i w v replies rs x out answered on is d = record {
   replies = replies ++ rs;
-  answered = subst (λ (ss : List Step). Answers initial ss (replies ++ rs) v) (sym (steps_more items (i ∷ [])))
-      (answers_more initial w v (steps_of items) (steps_of (i ∷ [])) replies rs answered (does_answers t i w v rs out d));
+  answered = subst (λ (ss : List Request). AnswersRequests initial ss (replies ++ rs) v) (sym (requests_more items (i ∷ [])))
+      (answers_more initial w v (requests_of items) (requests_of (i ∷ [])) replies rs answered (does_answers t i w v rs out d));
   goes_on = All-append (GoesOn t) replies rs on (does_go_on t i w v rs out d);
   is = ap (λ (u : List ℕ). u ++ out) is ∙ ap (λ (u : List ℕ). items_shown t items replies ++ u) (does_shown t i w v rs out d) ∙ sym (items_shown_more t items (i ∷ []) replies rs initial w answered);
 }
@@ -146,7 +160,7 @@ progressed_item m t old new seen more i w0 w w' c output_mode read it =
       appends = subst (λ (u : List ℕ). Appends w0 w' u) further.is (appends_more w0 w w' x it.1 c.appends it.3);
     }
 
-all_go_on : (o : Format) (qs : List Reply) → All (GoesOn (Printed o)) qs
+all_go_on : (o : Format) (qs : List RequestReply) → All (GoesOn (Printed o)) qs
 all_go_on o [] = All-nil (GoesOn (Printed o))
 all_go_on o (q ∷ qs) = All-cons (GoesOn (Printed o)) q qs tt (all_go_on o qs)
 
@@ -158,7 +172,7 @@ none_before (b ∷ part) after e = cc
 short_first : (t : OutputMode) (input part : List ℕ) (items rest : List Item) (v : State) (out end : List ℕ) → WrittenFor t items v out → out ≡ part ++ end
     → Spells 1 None (lines input) (items ++ rest) → IsPartOutput t input part
 short_first (Printed o) input part items rest v out end h e spelled =
-    let qs = refused (steps_of rest) in
+    let qs = refused (requests_of rest) in
     let after = items_shown (Printed o) rest qs in
     record {
       after = v;
@@ -168,12 +182,12 @@ short_first (Printed o) input part items rest v out end h e spelled =
         items = items ++ rest;
         replies = h.replies ++ qs;
         spelled = spelled;
-        answered = subst (λ (ss : List Step). Answers initial ss (h.replies ++ refused (steps_of rest)) v) (sym (steps_more items rest))
-            (answers_more initial v v (steps_of items) (steps_of rest) h.replies qs h.answered (answers_refused v (steps_of rest)));
+        answered = subst (λ (ss : List Request). AnswersRequests initial ss (h.replies ++ refused (requests_of rest)) v) (sym (requests_more items rest))
+            (answers_more initial v v (requests_of items) (requests_of rest) h.replies qs h.answered (answers_refused v (requests_of rest)));
         goes_on = All-append (GoesOn (Printed o)) h.replies qs h.goes_on (all_go_on o qs);
         is = refl;
       };
-      is = items_shown_more (Printed o) items rest h.replies qs initial v h.answered ∙ ap (λ (u : List ℕ). u ++ items_shown (Printed o) rest (refused (steps_of rest))) (sym h.is ∙ e) ∙ append_assoc part end after;
+      is = items_shown_more (Printed o) items rest h.replies qs initial v h.answered ∙ ap (λ (u : List ℕ). u ++ items_shown (Printed o) rest (refused (requests_of rest))) (sym h.is ∙ e) ∙ append_assoc part end after;
     }
 short_first Silent input part items rest v out end h e spelled = none_before part end (sym e ∙ h.is)
 
@@ -197,7 +211,7 @@ failed_after m t run seen w0 w c more =
 -- a prefix of an item's output is written
 abbrev pub IsPartCarriedOut : OutputMode → Item → State → Option (List ℕ) → Option (List ℕ) → Type 0
 IsPartCarriedOut t i w was now =
-    (replies : List Reply) × (v : State) × (out : List ℕ) × ItemDoes t i w replies v out × AppendsPart was now out
+    (replies : List RequestReply) × (v : State) × (out : List ℕ) × ItemDoes t i w replies v out × AppendsPart was now out
 
 -- the run failed at an item
 failed_item : (m : Limits) (t : OutputMode) (old : ScriptRun) (seen more : List ℕ) (i : Item) (rest : List Item) (w0 w w' : Option (List ℕ)) → (c : HasProgressed m t old seen w0 w)
@@ -248,7 +262,7 @@ progressed_listed m t old new seen front None w0 w w' c output_mode takes carrie
       items = c.items;
       replies = c.replies;
       read = read;
-      answered = subst (λ (v : State). Answers initial (steps_of c.items) c.replies v) (sym carried.0) c.answered;
+      answered = subst (λ (v : State). AnswersRequests initial (requests_of c.items) c.replies v) (sym carried.0) c.answered;
       goes_on = c.goes_on;
       appends = subst (λ (u : Option (List ℕ)). Appends w0 u (items_shown t c.items c.replies)) (sym carried.1) c.appends;
     }

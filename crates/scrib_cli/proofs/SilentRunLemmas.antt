@@ -3,26 +3,24 @@ use Rattle.std.proofs.Common.{◌≡◌, ◌≢◌, ◌⊎◌, inl, inr, ℕ, Li
 use Rattle.std.specs.Prelude.{IfSome, All}
 use Rattle.std.specs.Io.KnownBytes.{Appends, Keeps}
 use Rattle.std.proofs.lemmas.List.{append-nil}
-use Rattle.scrib_core.specs.declared.reply.Reply.{Reply}
-use Rattle.scrib_core.specs.declared.reply.Reply.TheVariants as reply
-use Rattle.scrib_core.specs.declared.reply.Refusal.TheVariants.{OutOfMemory}
 use Rattle.scrib_core.specs.World.{World}
-use Rattle.scrib_core.specs.Answers.{State, initial, Answers}
+use Rattle.scrib_core.specs.Answers.{State, initial}
 use Rattle.scrib_script_reader.specs.declared.item.Item.{Item}
-use Rattle.scrib_script_reader.specs.Scripts.{Spells, lines, steps_of}
+use Rattle.scrib_script_reader.specs.Scripts.{Spells, lines, requests_of}
+use Rattle.scrib_cli.specs.Requests.{RequestReply, HasMemory, AnswersRequests}
 use Rattle.scrib_script_reader.specs.Limits.{of_scripts}
 use Rattle.scrib_script_io.specs.Writes.{AppendsPart}
 use Rattle.scrib_cli.specs.declared.output_mode.OutputMode.TheVariants.{Silent}
 use Rattle.scrib_cli.specs.Progress.{RunSucceeds, RunFails}
 use Rattle.scrib_script_io.proofs.WriterLemmas.{appends_more, appends_kept}
 
--- The text, of this kind, is one about the world after the script. Its steps are made over a new monitor, and are not
--- refused memory.
+-- The text, of this kind, is one about the world after the script. Its steps and sweeps are made over a new monitor, and
+-- are not refused memory.
 abbrev pub IsTextAfter : {K : Type 0} (Text : World → K → List ℕ → Type 0) → List ℕ → K → List ℕ → Type 0
 IsTextAfter Text input k output =
-    (items : List Item) × (replies : List Reply) × (s : State)
-    × Spells 1 None (lines input) items × Answers initial (steps_of items) replies s
-    × All (λ r. r ≢ reply.Refused OutOfMemory) replies × Text s.world k output
+    (items : List Item) × (replies : List RequestReply) × (s : State)
+    × Spells 1 None (lines input) items × AnswersRequests initial (requests_of items) replies s
+    × All HasMemory replies × Text s.world k output
 
 -- such a text was written
 abbrev pub WritesText : {K : Type 0} (Text : World → K → List ℕ → Type 0) → K → Option (List ℕ) → Option (List ℕ) → Option (List ℕ) → Type 0

@@ -1,13 +1,10 @@
 -- Explanations of conversations: their messages in flight, or a refusal (this project's own).
-use Rattle.std.specs.Prelude.{◌≡◌, ◌≢◌, ℕ, ◌+◌, List, [], ◌∷◌, ◌++◌, Some, None, All, codes}
+use Rattle.std.specs.Prelude.{◌≡◌, ℕ, ◌+◌, List, [], ◌∷◌, ◌++◌, Some, None, All, codes}
 use Rattle.std.specs.Fmt.{decimal}
 use Rattle.scrib_types.specs.Agreement.{Agreement}
 use Rattle.scrib_library.specs.Modules.{Means, IsMeaning}
-use Rattle.scrib_core.specs.declared.reply.Reply.{Reply}
-use Rattle.scrib_core.specs.declared.reply.Reply.TheVariants as reply
-use Rattle.scrib_core.specs.declared.reply.Refusal.TheVariants.{OutOfMemory}
 use Rattle.scrib_core.specs.World.{World, Conversation, conversation}
-use Rattle.scrib_core.specs.Answers.{State, initial, Answers}
+use Rattle.scrib_core.specs.Answers.{State, initial}
 use Rattle.scrib_global.specs.declared.explain.Flight.{Flight}
 use Rattle.scrib_global.specs.Offences.{Offends}
 use Rattle.scrib_global.specs.Explained.{IsExplained}
@@ -15,7 +12,8 @@ use Rattle.scrib_report.specs.Lines.{flight_text}
 use Rattle.scrib_cli.specs.declared.explanation.Explained.{Explained}
 use Rattle.scrib_cli.specs.declared.explanation.Explained.TheVariants.{Flights, Refused}
 use Rattle.scrib_script_reader.specs.declared.item.Item.{Item}
-use Rattle.scrib_script_reader.specs.Scripts.{Spells, lines, steps_of}
+use Rattle.scrib_script_reader.specs.Scripts.{Spells, lines, requests_of}
+use Rattle.scrib_cli.specs.Requests.{RequestReply, HasMemory, AnswersRequests}
 
 -- a line for each message in flight
 abbrev pub flight_lines : List Flight → List ℕ
@@ -38,10 +36,10 @@ pub data Explanation (w : World) (id : ℕ) : Explained → List ℕ → Type 0 
   flies : (c : Conversation) (a : Agreement) (found : List Flight) → conversation w id ≡ Some c
       → Means w.modules c.name a → IsExplained a c.log found → Explanation w id Flights (flight_lines found)
 
--- An explanation of a conversation of a script, whose steps are made over a new monitor and are not refused memory. The
--- conversation is explained in the world after them.
+-- An explanation of a conversation of a script, whose steps and sweeps are made over a new monitor and are not refused
+-- memory. The conversation is explained in the world after them.
 abbrev pub IsExplanation : List ℕ → ℕ → Explained → List ℕ → Type 0
 IsExplanation input id e output =
-    (items : List Item) × (replies : List Reply) × (s : State)
-    × Spells 1 None (lines input) items × Answers initial (steps_of items) replies s
-    × All (λ r. r ≢ reply.Refused OutOfMemory) replies × Explanation s.world id e output
+    (items : List Item) × (replies : List RequestReply) × (s : State)
+    × Spells 1 None (lines input) items × AnswersRequests initial (requests_of items) replies s
+    × All HasMemory replies × Explanation s.world id e output

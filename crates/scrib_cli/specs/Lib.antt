@@ -1,3 +1,4 @@
+pub mod Requests
 pub mod Scripts
 pub mod Progress
 pub mod Explanations

@@ -1,13 +1,10 @@
 -- The output of `next`: what each role of a conversation may do next, or a refusal (this project's own).
-use Rattle.std.specs.Prelude.{◌≡◌, ◌≢◌, ◌↔◌, ℕ, Bool, true, false, ◌&&◌, not, IsTrue, List, [], ◌∷◌, ◌++◌, Some, None, All, codes}
+use Rattle.std.specs.Prelude.{◌≡◌, ◌↔◌, ℕ, Bool, true, false, ◌&&◌, not, IsTrue, List, [], ◌∷◌, ◌++◌, Some, None, All, codes}
 use Rattle.scrib_types.specs.Agreement.{Agreement}
 use Rattle.scrib_types.specs.Texts.{allowed_text}
 use Rattle.scrib_library.specs.Modules.{Means}
-use Rattle.scrib_core.specs.declared.reply.Reply.{Reply}
-use Rattle.scrib_core.specs.declared.reply.Reply.TheVariants as reply
-use Rattle.scrib_core.specs.declared.reply.Refusal.TheVariants.{OutOfMemory}
 use Rattle.scrib_core.specs.World.{World, Conversation, conversation}
-use Rattle.scrib_core.specs.Answers.{State, initial, Answers}
+use Rattle.scrib_core.specs.Answers.{State, initial}
 use Rattle.scrib_global.specs.declared.next.RoleNext.{RoleNext}
 use Rattle.scrib_global.specs.declared.next.RoleNext.TheVariants.{MayJoin, Done, May, WaitsFor}
 use Rattle.scrib_global.specs.declared.next.RoleStatus.{RoleStatus}
@@ -16,7 +13,8 @@ use Rattle.scrib_global.specs.NextEvents.{AreNext}
 use Rattle.scrib_cli.specs.declared.explanation.Explained.TheVariants.{Refused}
 use Rattle.scrib_cli.specs.Explanations.{Explanation}
 use Rattle.scrib_script_reader.specs.declared.item.Item.{Item}
-use Rattle.scrib_script_reader.specs.Scripts.{Spells, lines, steps_of}
+use Rattle.scrib_script_reader.specs.Scripts.{Spells, lines, requests_of}
+use Rattle.scrib_cli.specs.Requests.{RequestReply, HasMemory, AnswersRequests}
 
 -- What a role may do next: `may join`, and `may join, done` of a role that never acts; `done`; `may B!hello(), B!x()`;
 -- `waits for A?ok(), A?quit()`. Actions are spelled as those that a verdict allows.
@@ -51,13 +49,13 @@ pub data NextSteps (w : World) (id : ℕ) : Bool → List ℕ → Type 0 where
       → (IsTrue complete ↔ IsComplete a c.log)
       → NextSteps w id true (next_lines found ++ complete_line complete)
 
--- An output of `next` for a conversation of a script, whose steps are made over a new monitor and are not refused
--- memory. The roles are those of the conversation in the world after them.
+-- An output of `next` for a conversation of a script, whose steps and sweeps are made over a new monitor and are
+-- not refused memory. The roles are those of the conversation in the world after them.
 abbrev pub IsNextOutput : List ℕ → ℕ → Bool → List ℕ → Type 0
 IsNextOutput input id listed output =
-    (items : List Item) × (replies : List Reply) × (s : State)
-    × Spells 1 None (lines input) items × Answers initial (steps_of items) replies s
-    × All (λ r. r ≢ reply.Refused OutOfMemory) replies × NextSteps s.world id listed output
+    (items : List Item) × (replies : List RequestReply) × (s : State)
+    × Spells 1 None (lines input) items × AnswersRequests initial (requests_of items) replies s
+    × All HasMemory replies × NextSteps s.world id listed output
 
 -- The rest of this file is cited by contracts of private functions alone.
 

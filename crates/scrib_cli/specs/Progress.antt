@@ -1,11 +1,9 @@
 -- The progress of a run: what its functions promise one another (this project's own).
 -- Only contracts of private functions cite this file.
-use Rattle.std.specs.Prelude.{◌≡◌, ◌≢◌, ℕ, List, [], ◌∷◌, ◌++◌, Option, Some, None, All, IfSome}
+use Rattle.std.specs.Prelude.{◌≡◌, ℕ, List, [], ◌∷◌, ◌++◌, Option, Some, None, All, IfSome}
 use Rattle.std.specs.Io.KnownBytes.{Appends}
 use Rattle.scrib_core.specs.declared.reply.Reply.{Reply}
-use Rattle.scrib_core.specs.declared.reply.Reply.TheVariants.{Refused}
-use Rattle.scrib_core.specs.declared.reply.Refusal.TheVariants.{OutOfMemory}
-use Rattle.scrib_core.specs.Answers.{State, initial, IsAnswered, Answers}
+use Rattle.scrib_core.specs.Answers.{State, initial, IsAnswered}
 use Rattle.scrib_core.specs.Held.{state_of}
 use Rattle.scrib_core.specs.declared.format.Format.{Format}
 use Rattle.scrib_core.specs.declared.format.Format.TheVariants as format
@@ -13,7 +11,7 @@ use Rattle.scrib_script_reader.specs.declared.item.Item.{Item}
 use Rattle.scrib_script_reader.specs.declared.item.Item.TheVariants as item
 use Rattle.scrib_script_reader.specs.declared.short_line.ShortLine.{ShortLine}
 use Rattle.scrib_script_reader.specs.ShortLines.{short_items}
-use Rattle.scrib_script_reader.specs.Scripts.{Spells, lines, steps_of, item_list}
+use Rattle.scrib_script_reader.specs.Scripts.{Spells, lines, requests_of, item_list}
 use Rattle.scrib_script_reader.specs.declared.limits.Limits.{Limits}
 use Rattle.scrib_script_reader.specs.Limits.{IsWithinLimits, IsPast}
 use Rattle.scrib_script_reader.specs.Positions.{HasConsumed, TakesFront}
@@ -21,8 +19,10 @@ use Rattle.scrib_cli.specs.declared.run.ScriptRun.{ScriptRun}
 use Rattle.scrib_cli.specs.declared.output_mode.OutputMode.{OutputMode}
 use Rattle.scrib_cli.specs.declared.output_mode.OutputMode.TheVariants.{Printed, Silent}
 use Rattle.scrib_report.specs.Parts.{Part, bad_part, end_part}
-use Rattle.scrib_report.specs.ReplyTexts.{part_text, reply_format, reply_text}
+use Rattle.scrib_report.specs.ReplyTexts.{part_text, reply_format}
 use Rattle.scrib_script_io.specs.Writes.{AppendsPart}
+use Rattle.scrib_sweep.specs.Sweeps.{IsSwept}
+use Rattle.scrib_cli.specs.Requests.{RequestReply, OfStep, OfSweep, request_reply_text, HasMemory, AnswersRequests}
 use Rattle.scrib_cli.specs.Scripts.{written}
 
 -- the bytes that are written for these: in silent mode none
@@ -36,8 +36,8 @@ output_format (Printed o) = o
 output_format Silent = format.Line
 
 -- what is written for a reply whose line asks for this format
-abbrev pub reply_shown : OutputMode → Format → Reply → List ℕ
-reply_shown t f r = shown_bytes t (reply_text (reply_format (output_format t) f) r)
+abbrev pub reply_shown : OutputMode → Format → RequestReply → List ℕ
+reply_shown t f r = shown_bytes t (request_reply_text (reply_format (output_format t) f) r)
 
 -- what is written for a part in the format of the output
 abbrev pub part_shown : OutputMode → Part → List ℕ
@@ -51,21 +51,21 @@ bad_line_shown t n = part_shown t (bad_part n)
 abbrev pub end_shown : OutputMode → List ℕ
 end_shown t = part_shown t end_part
 
--- what is written for these items, whose steps have these replies
-abbrev pub items_shown : OutputMode → List Item → List Reply → List ℕ
+-- what is written for these items, whose steps and sweeps have these replies
+abbrev pub items_shown : OutputMode → List Item → List RequestReply → List ℕ
 items_shown t items replies = shown_bytes t (written (output_format t) items replies)
 
--- a run continues after this reply; in silent mode it does not where the step was refused memory
-abbrev pub GoesOn : OutputMode → Reply → Type 0
+-- a run continues after this reply; in silent mode it does not where the request was refused memory
+abbrev pub GoesOn : OutputMode → RequestReply → Type 0
 GoesOn (Printed o) r = Unit {0}
-GoesOn Silent r = r ≢ Refused OutOfMemory
+GoesOn Silent r = HasMemory r
 
 -- the whole output of a script, and the state after it
 pub record IsWholeOutput (t : OutputMode) (input : List ℕ) (after : State) (output : List ℕ) : Type 0 where
   pub items : List Item
-  pub replies : List Reply
+  pub replies : List RequestReply
   pub spelled : Spells 1 None (lines input) items
-  pub answered : Answers initial (steps_of items) replies after
+  pub answered : AnswersRequests initial (requests_of items) replies after
   pub goes_on : All (GoesOn t) replies
   pub is : output ≡ items_shown t items replies
 
@@ -101,9 +101,9 @@ pub record HasProgressed (m : Limits) (t : OutputMode) (run : ScriptRun) (seen :
     : Type 0 where
   pub output_mode : run.output_mode ≡ t
   pub items : List Item
-  pub replies : List Reply
+  pub replies : List RequestReply
   pub read : HasConsumed m run.script seen items
-  pub answered : Answers initial (steps_of items) replies (state_of run.core)
+  pub answered : AnswersRequests initial (requests_of items) replies (state_of run.core)
   pub goes_on : All (GoesOn t) replies
   pub appends : Appends was now (items_shown t items replies)
 
@@ -144,20 +144,24 @@ pub record EndFails (old : ScriptRun) (was now : Option (List ℕ)) : Type 0 whe
       → HasProgressed m t old seen w was
       → RunFailsOn t seen w now
 
--- what an item does: the state after it, the reply to its step, if it is one, and what is written for it
-abbrev pub ItemDoes : OutputMode → Item → State → List Reply → State → List ℕ → Type 0
+-- what an item does: the state after it, the reply to its step or sweep, if it is one, and what is written for it
+abbrev pub ItemDoes : OutputMode → Item → State → List RequestReply → State → List ℕ → Type 0
 ItemDoes t (item.Step f s) w replies v out =
-    (r : Reply) × (replies ≡ r ∷ []) × IsAnswered w s r v × GoesOn t r × (out ≡ reply_shown t f r)
+    (r : Reply) × (replies ≡ OfStep r ∷ []) × IsAnswered w s r v × GoesOn t (OfStep r)
+    × (out ≡ reply_shown t f (OfStep r))
+ItemDoes t (item.Sweep f) w replies v out =
+    (judged : Option ℕ) × (replies ≡ OfSweep judged ∷ []) × IsSwept w judged v × GoesOn t (OfSweep judged)
+    × (out ≡ reply_shown t f (OfSweep judged))
 ItemDoes t (item.BadLine n) w replies v out = (replies ≡ []) × (v ≡ w) × (out ≡ bad_line_shown t n)
 ItemDoes t item.EndOfText w replies v out = (replies ≡ []) × (v ≡ w) × (out ≡ end_shown t)
 
 -- the item was carried out, and its output was written
 abbrev pub IsCarriedOut : OutputMode → Item → State → State → Option (List ℕ) → Option (List ℕ) → Type 0
 IsCarriedOut t i w v was now =
-    (replies : List Reply) × (out : List ℕ) × ItemDoes t i w replies v out × Appends was now out
+    (replies : List RequestReply) × (out : List ℕ) × ItemDoes t i w replies v out × Appends was now out
 
--- the reply to a step was written, where its line asks for this format, and the run continues
-abbrev pub IsReplyShown : OutputMode → Format → Reply → (was now : Option (List ℕ)) → Type 0
+-- the reply to a request was written, where its line asks for this format, and the run continues
+abbrev pub IsReplyShown : OutputMode → Format → RequestReply → (was now : Option (List ℕ)) → Type 0
 IsReplyShown t f r was now = GoesOn t r × Appends was now (reply_shown t f r)
 
 -- what was done with the item, if there was one, and what was written for it

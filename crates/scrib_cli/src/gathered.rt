@@ -2,11 +2,12 @@
 
 ghost use Rattle.std.specs.Prelude.{◌≡◌, ◌++◌, [], true, codes, IfErr, OnOk, OnErr};
 ghost use Rattle.std.specs.Fmt.{decimal};
+ghost use Rattle.std.specs.Result.{result_ok};
 ghost use Rattle.std.specs.Io.KnownBytes.{Appends};
 ghost use Rattle.scrib_core.specs.ReplyValues.{note_reply_of, open_reply_of};
 ghost use Rattle.scrib_report.specs.HeadedEvents.{headed_permitted};
 ghost use Rattle.scrib_report.specs.Parts.{bad_part, part_of};
-ghost use Rattle.scrib_report.specs.ReplyTexts.{part_text, reply_text};
+ghost use Rattle.scrib_report.specs.ReplyTexts.{part_text, reply_text, swept_text};
 ghost use Rattle.scrib_script_io.specs.Faults.{of_output};
 ghost use Rattle.scrib_script_io.specs.Writes.{AppendsPart};
 ghost use Rattle.scrib_cli.specs.Progress.{WritesFront};
@@ -146,6 +147,27 @@ impl Gathered {
         match format {
             Format::Line => push_bad_line(&mut self.bytes, number),
             Format::Json => self.add_part(&OutputPart::BadLine(number), format),
+        }
+    }
+
+    // Returns the allocator of the texts.
+    pub(crate) fn alloc(&self) -> Global {
+        *self.bytes.allocator()
+    }
+
+    // Adds the reply to a sweep with this outcome, in this format. Where memory is refused, the texts stay as they were.
+    pub(crate) fn add_swept(
+        &mut self,
+        swept: Result<usize, AllocError>,
+        format: Format,
+    ) -> Result<(), AllocError>
+        ensures ok { OnOk result
+            (self.new.bytes.items ≡ self.old.bytes.items ++ swept_text format (result_ok swept)) }
+        ensures err { OnErr result (self.new.bytes.items ≡ self.old.bytes.items) }
+    {
+        match swept {
+            Ok(judged) => self.add_part(&OutputPart::Swept(judged as u64), format),
+            Err(_) => self.add_reply(&Reply::Refused(Refusal::OutOfMemory), format),
         }
     }
 

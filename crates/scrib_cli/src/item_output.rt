@@ -8,6 +8,7 @@ ghost use Rattle.scrib_core.specs.declared.reply.Reply.TheVariants.{Refused};
 ghost use Rattle.scrib_core.specs.declared.reply.Refusal.TheVariants.{OutOfMemory};
 ghost use Rattle.scrib_script_reader.specs.declared.item.Item.TheVariants as item;
 ghost use Rattle.scrib_cli.specs.declared.output_mode.OutputMode.TheVariants.{Printed};
+ghost use Rattle.scrib_cli.specs.Requests.{OfStep};
 ghost use Rattle.scrib_cli.specs.Progress.{IsReplyShown, IsCarriedOut, IsShortCarriedOut, bad_line_shown, end_shown};
 ghost use Rattle.scrib_script_io.specs.Faults.{of_output};
 
@@ -22,6 +23,7 @@ use scrib_report::printing::reply_format;
 use scrib_script_io::fault::ScriptFault;
 use scrib_script_reader::item::Item;
 use scrib_script_reader::short_line::ShortLine;
+use scrib_sweep::sweep::sweep;
 use scrib_types::name::Dotted;
 use scrib_types::shared_event::SharedEvent;
 
@@ -33,7 +35,7 @@ fn gather_reply(
     output_mode: OutputMode,
 ) -> Result<(), ScriptFault>
     ensures ok { OnOk result (IsReplyShown
-        output_mode asked reply.now (Some gathered.old.bytes.items) (Some gathered.new.bytes.items)) }
+        output_mode asked (OfStep reply.now) (Some gathered.old.bytes.items) (Some gathered.new.bytes.items)) }
     ensures err { OnErr result (gathered.new.bytes.items ≡ gathered.old.bytes.items) }
     ensures fault { IfErr result (λ e. of_output e ≡ true) }
 {
@@ -197,6 +199,35 @@ fn gather_step(
     gather_reply(gathered, &reply, Format::Line, output_mode)
 }
 
+// Sweeps the stale conversations, and gathers the reply to this, whose line asks for this format.
+//
+// Fails where there is no memory for the text, or in silent mode for a turn. The gathered texts are then unchanged.
+#[inline(never)]
+fn gather_sweep(
+    gathered: &mut Gathered,
+    core: &mut Core,
+    asked: Format,
+    output_mode: OutputMode,
+) -> Result<(), ScriptFault>
+    ensures ok { OnOk result (IsCarriedOut output_mode (item.Sweep asked)
+        (state_of core.old) (state_of core.new) (Some gathered.old.bytes.items) (Some gathered.new.bytes.items)) }
+    ensures err { OnErr result (gathered.new.bytes.items ≡ gathered.old.bytes.items) }
+    ensures fault { IfErr result (λ e. of_output e ≡ true) }
+{
+    let swept = sweep(gathered.alloc(), core);
+    match output_mode {
+        OutputMode::Printed(output) => {
+            let format = reply_format(output, asked);
+            gathered.add_swept(swept, format)?;
+            Ok(())
+        }
+        OutputMode::Silent => match swept {
+            Ok(_judged) => Ok(()),
+            Err(_) => Err(ScriptFault::OutOfMemory),
+        },
+    }
+}
+
 /// Does what the line spells, and gathers what is written for it.
 ///
 /// # Errors
@@ -224,11 +255,11 @@ pub fn gather_short(
     }
 }
 
-/// Makes the item's step and gathers its reply; or gathers a bad line, or an end inside a module text.
+/// Makes the item's step or sweep and gathers its reply; or gathers a bad line, or an end inside a module text.
 ///
 /// # Errors
-/// `OutOfMemory` where there is no memory for a text, or in silent mode for the step. The gathered texts are then
-/// unchanged.
+/// `OutOfMemory` where there is no memory for a text, or in silent mode for the step or sweep. The gathered texts are
+/// then unchanged.
 pub fn gather_item(
     gathered: &mut Gathered,
     core: &mut Core,
@@ -245,6 +276,7 @@ pub fn gather_item(
             let reply = core.apply(step);
             gather_reply(gathered, &reply, asked, output_mode)
         }
+        Item::Sweep(asked) => gather_sweep(gathered, core, asked, output_mode),
         Item::BadLine(number) => gather_bad_line(gathered, number, output_mode),
         Item::EndOfText => gather_end(gathered, output_mode),
     }

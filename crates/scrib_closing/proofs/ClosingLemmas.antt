@@ -9,46 +9,53 @@ use Rattle.scrib_core.specs.declared.step.Step.TheVariants.{Close}
 use Rattle.scrib_core.specs.declared.reply.Refusal.TheVariants.{OutOfMemory}
 use Rattle.scrib_core.specs.declared.reply.Reply.{Reply}
 use Rattle.scrib_core.specs.declared.reply.Reply.TheVariants.{Refused}
-use Rattle.scrib_core.specs.Answers.{State, IsCompleteIn, IsAnswered, Answers}
+use Rattle.scrib_core.specs.Answers.{State, IsCompleteIn, IsAnswered}
 use Rattle.scrib_report.specs.ReplyTexts.{bad_line, end_of_text, reply_format, reply_text}
 use Rattle.scrib_script_reader.specs.declared.item.Item.{Item}
 use Rattle.scrib_script_reader.specs.declared.item.Item.TheVariants as item
-use Rattle.scrib_script_reader.specs.Scripts.{steps_of}
+use Rattle.scrib_script_reader.specs.Scripts.{Request, ToMake, ToSweep, requests_of}
+use Rattle.scrib_sweep.specs.Sweeps.{IsSwept}
+use Rattle.scrib_sweep.proofs.SweepSteps.{sweep_none}
+use Rattle.scrib_cli.specs.Requests.{RequestReply, OfStep, OfSweep, AnswersRequests, request_reply_text}
 use Rattle.scrib_cli.specs.Progress.{IsCarriedOut}
 use Rattle.scrib_cli.specs.Scripts.{written}
 use Rattle.scrib_cli.specs.declared.output_mode.OutputMode.TheVariants.{Printed}
 use Rattle.scrib_cli.proofs.RunLemmas.{refuses_memory, refused, written_more}
-use Rattle.scrib_closing.specs.ClosingScripts.{ClosesComplete, Completes, at_end, no_step, goes_on, closes, is_accepted, judged_by}
+use Rattle.scrib_closing.specs.ClosingScripts.{ClosesComplete, Completes, at_end, no_step, goes_on, sweeps, closes, is_accepted, judged_by}
 use Rattle.scrib_closing.specs.Progress.{AreCarriedOut, AreCarriedInPart, IsBeginningOf}
 
 -- some items, and then others
-pub closes_more : (w u v : State) (xs ys as_ bs : List Item) (rs qs : List Reply) → ClosesComplete w xs as_ rs u → ClosesComplete u ys bs qs v → ClosesComplete w (xs ++ ys) (as_ ++ bs) (rs ++ qs) v
+pub closes_more : (w u v : State) (xs ys as_ bs : List Item) (rs qs : List RequestReply) → ClosesComplete w xs as_ rs u → ClosesComplete u ys bs qs v → ClosesComplete w (xs ++ ys) (as_ ++ bs) (rs ++ qs) v
 closes_more w u v xs ys as_ bs rs qs (at_end x) k = k
 closes_more w u v xs ys as_ bs rs qs (no_step x y i script carried replies none more) k = no_step w v i (script ++ ys) (carried ++ bs) (replies ++ qs) none (closes_more w u v script ys carried bs replies qs more k)
 closes_more w u v xs ys as_ bs rs qs (goes_on x t y f s r script carried replies answered stays more) k = goes_on w t v f s r (script ++ ys) (carried ++ bs) (replies ++ qs) answered stays (closes_more t u v script ys carried bs replies qs more k)
+closes_more w u v xs ys as_ bs rs qs (sweeps x t y f judged script carried replies swept more) k = sweeps w t v f judged (script ++ ys) (carried ++ bs) (replies ++ qs) swept (closes_more t u v script ys carried bs replies qs more k)
 closes_more w u v xs ys as_ bs rs qs (closes x t z y f s r c id script carried replies answered complete closed more) k =
     closes w t z v f s r c id (script ++ ys) (carried ++ bs) (replies ++ qs) answered complete closed (closes_more z u v script ys carried bs replies qs more k)
 
--- an item that is no step does not matter for the steps
-same_steps : (i : Item) (items : List Item) → steps_of (i ∷ []) ≡ [] → steps_of (i ∷ items) ≡ steps_of items
-same_steps (item.Step f s) items e = absurd (cc)
-same_steps (item.BadLine n) items e = refl
-same_steps item.EndOfText items e = refl
+-- an item that asks for nothing does not matter for the requests
+same_requests : (i : Item) (items : List Item) → requests_of (i ∷ []) ≡ [] → requests_of (i ∷ items) ≡ requests_of items
+same_requests (item.Step f s) items e = absurd (cc)
+same_requests (item.Sweep f) items e = absurd (cc)
+same_requests (item.BadLine n) items e = refl
+same_requests item.EndOfText items e = refl
 
--- the replies are those to the steps that are carried out
-pub closes_answers : (w v : State) (xs as_ : List Item) (rs : List Reply) → ClosesComplete w xs as_ rs v → Answers w (steps_of as_) rs v
+-- the replies are those to what is carried out
+pub closes_answers : (w v : State) (xs as_ : List Item) (rs : List RequestReply) → ClosesComplete w xs as_ rs v → AnswersRequests w (requests_of as_) rs v
 closes_answers w v xs as_ rs (at_end x) = refl
-closes_answers w v xs as_ rs (no_step x y i script carried replies none more) = subst (λ (ss : List Step). Answers w ss replies v) (sym (same_steps i carried none)) (closes_answers w v script carried replies more)
+closes_answers w v xs as_ rs (no_step x y i script carried replies none more) = subst (λ (ss : List Request). AnswersRequests w ss replies v) (sym (same_requests i carried none)) (closes_answers w v script carried replies more)
 closes_answers w v xs as_ rs (goes_on x t y f s r script carried replies answered stays more) = (t, answered, closes_answers t v script carried replies more)
+closes_answers w v xs as_ rs (sweeps x t y f judged script carried replies swept more) = (t, swept, closes_answers t v script carried replies more)
 closes_answers w v xs as_ rs (closes x t z y f s r c id script carried replies answered complete closed more) = (t, answered, (z, closed, closes_answers z v script carried replies more))
 
--- each step may be refused memory, and then completes nothing
-pub closes_refused : (w : State) (items : List Item) → ClosesComplete w items items (refused (steps_of items)) w
+-- each request may be refused memory, and then completes nothing
+pub closes_refused : (w : State) (items : List Item) → ClosesComplete w items items (refused (requests_of items)) w
 closes_refused w [] = at_end w
 closes_refused w (item.Step f s ∷ items) =
-    goes_on w w w f s (Refused OutOfMemory) items items (refused (steps_of items)) (refuses_memory w.world s, refl) (λ id k. false≢true k.1) (closes_refused w items)
-closes_refused w (item.BadLine n ∷ items) = no_step w w (item.BadLine n) items items (refused (steps_of items)) refl (closes_refused w items)
-closes_refused w (item.EndOfText ∷ items) = no_step w w item.EndOfText items items (refused (steps_of items)) refl (closes_refused w items)
+    goes_on w w w f s (Refused OutOfMemory) items items (refused (requests_of items)) (refuses_memory w.world s, refl) (λ id k. false≢true k.1) (closes_refused w items)
+closes_refused w (item.Sweep f ∷ items) = sweeps w w w f None items items (refused (requests_of items)) (0, sweep_none w) (closes_refused w items)
+closes_refused w (item.BadLine n ∷ items) = no_step w w (item.BadLine n) items items (refused (requests_of items)) refl (closes_refused w items)
+closes_refused w (item.EndOfText ∷ items) = no_step w w item.EndOfText items items (refused (requests_of items)) refl (closes_refused w items)
 
 -- ---- what is written
 
@@ -65,17 +72,17 @@ carried_more o xs ys w v u a b c p q = (
 )
 
 -- all of it is a prefix
-pub begun_whole : (o : Format) (items carried : List Item) (replies : List Reply) (w v : State) → ClosesComplete w items carried replies v → IsBeginningOf o items w (written o carried replies)
+pub begun_whole : (o : Format) (items carried : List Item) (replies : List RequestReply) (w v : State) → ClosesComplete w items carried replies v → IsBeginningOf o items w (written o carried replies)
 begun_whole o items carried replies w v c = (carried, replies, v, [], c, sym (append-nil (written o carried replies)))
 
 -- nothing is a prefix
 pub begun_none : (o : Format) (items : List Item) (w : State) → IsBeginningOf o items w []
-begun_none o items w = (items, refused (steps_of items), w, written o items (refused (steps_of items)), closes_refused w items, refl)
+begun_none o items w = (items, refused (requests_of items), w, written o items (refused (requests_of items)), closes_refused w items, refl)
 
 -- a prefix of what may be written for some items is one for more
 pub begun_more : (o : Format) (items more : List Item) (w : State) (part : List ℕ) → IsBeginningOf o items w part → IsBeginningOf o (items ++ more) w part
 begun_more o items more w part b =
-    let qs = refused (steps_of more) in
+    let qs = refused (requests_of more) in
     let after = written o more qs in (
       b.0 ++ more,
       b.1 ++ qs,
@@ -111,7 +118,7 @@ pub carried_open : (o f : Format) (s : Step) (r : Reply) (w u : State) (a b : Li
     → AreCarriedOut o (item.Step f s ∷ []) w u a b
 carried_open o f s r w u a b answered stays is = (
   item.Step f s ∷ [],
-  r ∷ [],
+  OfStep r ∷ [],
   goes_on w u u f s r [] [] [] answered stays (at_end u),
   is ∙ ap (λ (t : List ℕ). a ++ t) (sym (append-nil (text_of o f r))),
 )
@@ -121,13 +128,13 @@ abbrev pub IsClosed : State → ℕ → State → Type 0
 IsClosed u id t = (c : Reply) × IsAnswered u (Close id) c t
 
 module _ (o f : Format) (s : Step) (r : Reply) (w u t : State) (id : ℕ) (answered : IsAnswered w s r u) (complete : Completes s r u id) where
-  both : (c : Reply) → IsAnswered u (Close id) c t → ClosesComplete w (item.Step f s ∷ []) (item.Step f s ∷ item.Step f (Close id) ∷ []) (r ∷ c ∷ []) t
+  both : (c : Reply) → IsAnswered u (Close id) c t → ClosesComplete w (item.Step f s ∷ []) (item.Step f s ∷ item.Step f (Close id) ∷ []) (OfStep r ∷ OfStep c ∷ []) t
   both c closed = closes w u t t f s r c id [] [] [] answered complete closed (at_end t)
 
   pub carried_closed : (a m b : List ℕ) (c : Reply) → IsAnswered u (Close id) c t → m ≡ a ++ reply_text (reply_format o f) r → b ≡ m ++ reply_text (reply_format o f) c → AreCarriedOut o (item.Step f s ∷ []) w t a b
   carried_closed a m b c closed first second = (
     item.Step f s ∷ item.Step f (Close id) ∷ [],
-    r ∷ c ∷ [],
+    OfStep r ∷ OfStep c ∷ [],
     both c closed,
     second ∙ ap (λ (x : List ℕ). x ++ text_of o f c) first ∙ append_assoc a (text_of o f r) (text_of o f c)
         ∙ ap (λ (x : List ℕ). a ++ (text_of o f r ++ x)) (sym (append-nil (text_of o f c))),
@@ -137,7 +144,7 @@ module _ (o f : Format) (s : Step) (r : Reply) (w u t : State) (id : ℕ) (answe
   pub part_closed : (a m b : List ℕ) → IsClosed u id t → m ≡ a ++ reply_text (reply_format o f) r → b ≡ m → AreCarriedInPart o (item.Step f s ∷ []) w a b
   part_closed a m b c first same = (
     text_of o f r,
-    (item.Step f s ∷ item.Step f (Close id) ∷ [], r ∷ c.0 ∷ [], t, text_of o f c.0 ++ [], both c.0 c.1, refl),
+    (item.Step f s ∷ item.Step f (Close id) ∷ [], OfStep r ∷ OfStep c.0 ∷ [], t, text_of o f c.0 ++ [], both c.0 c.1, refl),
     same ∙ first,
   )
 
@@ -156,9 +163,10 @@ module _ (s : Step) (r : Reply) (u : State) (judged : Option ℕ) (accepted : Bo
 
 -- ---- items that complete nothing
 
--- the item notes no event, and makes no turn
+-- the item is no step that notes an event or makes a turn
 abbrev pub IsUnjudged : Item → Type 0
 IsUnjudged (item.Step f s) = judged_by s ≡ None
+IsUnjudged (item.Sweep f) = Unit {0}
 IsUnjudged (item.BadLine n) = Unit {0}
 IsUnjudged item.EndOfText = Unit {0}
 
@@ -169,6 +177,14 @@ pub carried_item : (o : Format) (i : Item) (w v : State) (a b : List ℕ) → Is
 carried_item o (item.Step f s) w v a b none d =
     let k = d.2 in
     carried_open o f s k.0 w v a b k.2 (never_judged s k.0 v none) (d.3 ∙ ap (λ (t : List ℕ). a ++ t) k.4)
+carried_item o (item.Sweep f) w v a b none d =
+    let k = d.2 in
+    let text = request_reply_text (reply_format o f) (OfSweep k.0) in (
+      item.Sweep f ∷ [],
+      OfSweep k.0 ∷ [],
+      sweeps w v v f k.0 [] [] [] k.2 (at_end v),
+      d.3 ∙ ap (λ (t : List ℕ). a ++ t) (k.4 ∙ sym (append-nil text)),
+    )
 carried_item o (item.BadLine n) w v a b none d = (
   item.BadLine n ∷ [],
   [],

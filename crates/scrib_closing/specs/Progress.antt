@@ -3,7 +3,7 @@
 use Rattle.std.specs.Prelude.{◌≡◌, ℕ, List, [], ◌∷◌, ◌++◌, Option, IfSome}
 use Rattle.std.specs.Io.KnownBytes.{Appends}
 use Rattle.scrib_core.specs.declared.format.Format.{Format}
-use Rattle.scrib_core.specs.declared.reply.Reply.{Reply}
+use Rattle.scrib_cli.specs.Requests.{RequestReply}
 use Rattle.scrib_core.specs.Answers.{State, initial}
 use Rattle.scrib_core.specs.Held.{state_of}
 use Rattle.scrib_script_reader.specs.declared.item.Item.{Item}
@@ -20,13 +20,13 @@ use Rattle.scrib_closing.specs.ClosingScripts.{ClosesComplete, IsClosingOutput, 
 -- the items were carried out, from one state of a monitor to another, and the replies were put behind what was there
 abbrev pub AreCarriedOut : Format → List Item → (w v : State) → (was now : List ℕ) → Type 0
 AreCarriedOut o items w v was now =
-    (carried : List Item) × (replies : List Reply) × ClosesComplete w items carried replies v
+    (carried : List Item) × (replies : List RequestReply) × ClosesComplete w items carried replies v
     × (now ≡ was ++ written o carried replies)
 
 -- these bytes are a prefix of what may be written for the items
 abbrev pub IsBeginningOf : Format → List Item → (w : State) → (part : List ℕ) → Type 0
 IsBeginningOf o items w part =
-    (carried : List Item) × (replies : List Reply) × (v : State) × (rest : List ℕ)
+    (carried : List Item) × (replies : List RequestReply) × (v : State) × (rest : List ℕ)
     × ClosesComplete w items carried replies v × (written o carried replies ≡ part ++ rest)
 
 -- a prefix of what may be written for the items was put behind what was there

@@ -94,6 +94,12 @@ impl ClosingMonitor {
                 Item::EndOfText,
                 OutputMode::Printed(self.format),
             ),
+            Entry::Item(Item::Sweep(asked)) => gather_item(
+                &mut self.gathered,
+                &mut self.core,
+                Item::Sweep(asked),
+                OutputMode::Printed(self.format),
+            ),
             Entry::Skipped => Ok(()),
         }
     }

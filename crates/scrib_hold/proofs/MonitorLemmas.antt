@@ -1,26 +1,27 @@
 -- What a monitor behind a stage has taken, and where it fails.
-use Rattle.std.proofs.Common.{◌≡◌, ◌∙◌, ℕ, ◌+◌, Bool, true, cond, List, [], ◌∷◌, ◌++◌, Option, map, length, inl, inr, refl, sym, ap, subst, arith}
+use Rattle.std.proofs.Common.{◌≡◌, ◌∙◌, ℕ, ◌+◌, Bool, true, cond, List, [], ◌∷◌, ◌++◌, Option, Some, None, map, length, inl, inr, refl, sym, ap, subst, arith}
 use Rattle.std.specs.List.{AllByRecursion}
 use Rattle.std.proofs.lemmas.List.{append_assoc, append-nil}
 use Rattle.scrib_script_reader.specs.declared.item.Item.{Item}
 use Rattle.scrib_script_reader.specs.declared.entry.Entry.{Entry}
 use Rattle.scrib_script_reader.specs.Scripts.{item_list}
+use Rattle.scrib_hold_stage.specs.declared.conversation.Conversation.{Conversation}
 use Rattle.scrib_hold_stage.specs.declared.noted.Noted.{Noted}
 use Rattle.scrib_hold_stage.specs.declared.stage.Counts.{Counts}
 use Rattle.scrib_hold_stage.specs.Entries as stage
-use Rattle.scrib_hold_stage.specs.Entries.{Closings, none_closed, noted_in}
+use Rattle.scrib_hold_stage.specs.Entries.{Closings, none_closed, noted_in, opening_since}
 use Rattle.scrib_hold_stage.specs.Conversations.{waiting_at}
 use Rattle.scrib_hold_stage.specs.Changes.{conversation_at}
 use Rattle.scrib_hold_stage.specs.PendingClosings.{IsApart, IsNotReady, closings_in}
 use Rattle.scrib_hold_stage.specs.Stages as stages
-use Rattle.scrib_hold_stage.specs.Stages.{HasStaged, IsRead, IsFinished, Waits, IsUnreleased, AreAllReleased}
+use Rattle.scrib_hold_stage.specs.Stages.{AreHeld, HasStaged, IsRead, IsFinished, Waits, IsUnreleased, AreAllReleased}
 use Rattle.scrib_hold_stage.proofs.HistoryLemmas.{unreleased, all_released}
 use Rattle.scrib_hold.specs.declared.held_monitor.HeldMonitor.{HeldMonitor}
 use Rattle.scrib_hold.specs.HeldScripts.{Asked, Pending, event_in, staged, staged_from, closing_at, passing, is_end_inside, ends_inside, end_item}
 use Rattle.scrib_hold.specs.NumberedItems.{Numbered, numbered_at, numbered_event, numbered_closing, numbered_read, numbered_last, AreHeldNumbered, AreLetOutNumbered, AreFirstItems}
 use Rattle.scrib_hold.specs.Sinks.{GathersItems, FailsWithin}
 use Rattle.scrib_hold.specs.LetOutSoFar.{LetsOutSoFar}
-use Rattle.scrib_hold.specs.HeldMonitors.{IsAt, HasTaken, IsCount, FailsAtEntry, Ends, EndFails, HasNoneWaiting}
+use Rattle.scrib_hold.specs.HeldMonitors.{IsAt, HasTaken, IsCount, FailsAtEntry, Ends, EndFails, HasNoneLeft, HasNoneWaiting}
 use Rattle.scrib_hold.specs.EntrySteps.{IsBefore, ReadsEntry, ReadFails}
 use Rattle.scrib_hold.proofs.SinkLemmas.{behind_none}
 use Rattle.scrib_hold.proofs.EntryLemmas.{length_staged, inside_more}
@@ -46,6 +47,20 @@ pub none_waits : {S : Type 0} (m : HeldMonitor S) (id : ℕ) → waiting_at (con
 none_waits m id none apart = (
   apart,
   λ bound entries numbered h. all_released event_in bound id (staged_from 1 entries) h.at.so_far.closed h.at.so_far.released h.at.so_far.expired (stages.stage_state m.stage) h.at.so_far.staged none,
+)
+
+unmet_unopened : (bound : ℕ) (opening : Option ℕ) (early arrivals given late : List (Noted Asked)) → AreHeld event_in bound opening early arrivals given late None → opening ≡ None
+unmet_unopened bound None early arrivals given late h = refl
+unmet_unopened bound (Some n) early arrivals given late h = absurd h.2
+
+-- the conversation was not met, and no closing of it waits
+pub none_left : {S : Type 0} (m : HeldMonitor S) (id : ℕ) → conversation_at (stages.stage_state m.stage).conversations id ≡ None → AllByRecursion (IsApart id) (closings_in m.pending) → HasNoneLeft id m
+none_left m id none apart = (
+  none_waits m id (ap waiting_at none) apart,
+  λ bound entries numbered h.
+      let held = h.at.so_far.staged.kept.held id in
+      unmet_unopened bound (opening_since (h.at.so_far.closed id) id (staged_from 1 entries)) held.early held.arrivals held.given held.late
+      (subst (λ (now : Option (Conversation Asked)). AreHeld event_in bound (opening_since (h.at.so_far.closed id) id (staged_from 1 entries)) held.early held.arrivals held.given held.late now) none held.held),
 )
 
 -- an event waits

@@ -2,8 +2,7 @@
 use Rattle.std.proofs.Common.{◌≡◌, ◌∙◌, ℕ, List, [], ◌∷◌, ◌++◌, Option, Some, None, inr, refl, sym, ap, subst}
 use Rattle.std.proofs.lemmas.List.{append_assoc, append-nil}
 use Rattle.scrib_types.specs.declared.event.Event.{Event}
-use Rattle.scrib_core.specs.declared.step.Step.{Step}
-use Rattle.scrib_core.specs.Answers.{State, initial, Answers}
+use Rattle.scrib_core.specs.Answers.{State, initial}
 use Rattle.scrib_core.specs.Held.{state_of}
 use Rattle.scrib_core.specs.declared.format.Format.{Format}
 use Rattle.scrib_core.specs.declared.format.Format.TheVariants.{Line}
@@ -12,12 +11,13 @@ use Rattle.scrib_script_reader.specs.declared.item.Item.{Item}
 use Rattle.scrib_script_reader.specs.declared.item.Item.TheVariants as item
 use Rattle.scrib_script_reader.specs.declared.entry.Entry.{Entry}
 use Rattle.scrib_script_reader.specs.declared.short_line.ShortLine.TheVariants as short
-use Rattle.scrib_script_reader.specs.Scripts.{steps_of, item_list}
+use Rattle.scrib_script_reader.specs.Scripts.{Request, requests_of, item_list}
 use Rattle.scrib_hold_stage.specs.declared.stage.Counts.{Counts}
 use Rattle.scrib_cli.specs.declared.output_mode.OutputMode.TheVariants.{Printed}
+use Rattle.scrib_cli.specs.Requests.{AnswersRequests}
 use Rattle.scrib_cli.specs.Scripts.{written}
 use Rattle.scrib_cli.specs.Progress.{IsCarriedOut, IsShortCarriedOut, WasCarriedOut}
-use Rattle.scrib_cli.proofs.RunLemmas.{answers_more, steps_more, written_more, does_shown, does_answers}
+use Rattle.scrib_cli.proofs.RunLemmas.{answers_more, requests_more, written_more, does_shown, does_answers}
 use Rattle.scrib_hold.specs.declared.held_monitor.HeldMonitor.{HeldMonitor}
 use Rattle.scrib_hold.specs.declared.replies.Replies.{Replies}
 use Rattle.scrib_hold.specs.HeldScripts.{AreLetOut, IsOutputOf, IsBeginningOf}
@@ -41,7 +41,7 @@ carried_none o w a = ([], refl, sym (append-nil a))
 carried_more : (o : Format) (xs ys : List Item) (w v u : State) (a b c : List ℕ) → AreCarriedOut o xs w v a b → AreCarriedOut o ys v u b c → AreCarriedOut o (xs ++ ys) w u a c
 carried_more o xs ys w v u a b c p q = (
   p.0 ++ q.0,
-  subst (λ (ss : List Step). Answers w ss (p.0 ++ q.0) u) (sym (steps_more xs ys)) (answers_more w v u (steps_of xs) (steps_of ys) p.0 q.0 p.1 q.1),
+  subst (λ (ss : List Request). AnswersRequests w ss (p.0 ++ q.0) u) (sym (requests_more xs ys)) (answers_more w v u (requests_of xs) (requests_of ys) p.0 q.0 p.1 q.1),
   q.2 ∙ ap (λ (t : List ℕ). t ++ written o ys q.0) p.2 ∙ append_assoc a (written o xs p.0) (written o ys q.0)
       ∙ ap (λ (t : List ℕ). a ++ t) (sym (written_more o xs ys p.0 q.0 w v p.1)),
 )

@@ -1,10 +1,11 @@
 -- A monitor behind a stage, over a sink of the items that are let out (this project's own).
-use Rattle.std.specs.Prelude.{◌≡◌, ◌⊎◌, ℕ, false, List, [], ◌∷◌, ◌++◌, length}
+use Rattle.std.specs.Prelude.{◌≡◌, ◌⊎◌, ℕ, false, List, [], ◌∷◌, ◌++◌, length, None}
 use Rattle.std.specs.List.{AllByRecursion}
 use Rattle.scrib_script_reader.specs.declared.item.Item.{Item}
 use Rattle.scrib_script_reader.specs.declared.entry.Entry.{Entry}
 use Rattle.scrib_hold_stage.specs.declared.noted.Noted.{Noted}
 use Rattle.scrib_hold_stage.specs.declared.stage.Counts.{Counts}
+use Rattle.scrib_hold_stage.specs.Entries.{opening_since}
 use Rattle.scrib_hold_stage.specs.Firsts.{IsFirstAt}
 use Rattle.scrib_hold_stage.specs.PendingClosings.{IsMade, IsApart, IsOf, IsNotReady, closings_in}
 use Rattle.scrib_hold_stage.specs.Stages as stages
@@ -72,6 +73,13 @@ HasNoneWaiting id m =
     AllByRecursion (IsApart id) (closings_in m.pending)
     × ((bound : ℕ) (entries : List Entry) (numbered : List Numbered) → (h : HasTaken bound m entries numbered)
     → AreAllReleased id (staged_from 1 entries) h.at.so_far.closed h.at.so_far.released)
+
+-- Nothing is left of it: it was not opened since its last closing, and nothing waits of it.
+abbrev pub HasNoneLeft : {S : Type 0} → ℕ → HeldMonitor S → Type 0
+HasNoneLeft id m =
+    HasNoneWaiting id m
+    × ((bound : ℕ) (entries : List Entry) (numbered : List Numbered) → (h : HasTaken bound m entries numbered)
+    → opening_since (h.at.so_far.closed id) id (staged_from 1 entries) ≡ None)
 
 -- Something waits of it: an event that was not released yet, or a closing.
 abbrev pub HasSomeWaiting : {S : Type 0} → ℕ → HeldMonitor S → Type 0

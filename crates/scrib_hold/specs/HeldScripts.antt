@@ -5,13 +5,12 @@ use Rattle.std.specs.List.{AllByRecursion}
 use Rattle.scrib_types.specs.declared.event.Event.{Event}
 use Rattle.scrib_core.specs.declared.format.Format.{Format}
 use Rattle.scrib_core.specs.declared.step.Step.TheVariants.{Note, Open, Close}
-use Rattle.scrib_core.specs.declared.reply.Reply.{Reply}
-use Rattle.scrib_core.specs.Answers.{State, initial, Answers}
+use Rattle.scrib_core.specs.Answers.{State, initial}
 use Rattle.scrib_script_reader.specs.declared.item.Item.{Item}
 use Rattle.scrib_script_reader.specs.declared.item.Item.TheVariants as item
 use Rattle.scrib_script_reader.specs.declared.entry.Entry.{Entry}
 use Rattle.scrib_script_reader.specs.declared.entry.Entry.TheVariants as entry
-use Rattle.scrib_script_reader.specs.Scripts.{lines, steps_of}
+use Rattle.scrib_script_reader.specs.Scripts.{lines, requests_of}
 use Rattle.scrib_script_reader.specs.Entries.{SpellsEntries}
 use Rattle.scrib_hold_stage.specs.declared.noted.Noted.{Noted}
 use Rattle.scrib_hold_stage.specs.declared.stage.Counts.{Counts}
@@ -21,6 +20,7 @@ use Rattle.scrib_hold_stage.specs.Entries.{Closings, note, Opens, Passes, none_c
 use Rattle.scrib_hold_stage.specs.Conversations.{noted_event}
 use Rattle.scrib_hold_stage.specs.Stages as stages
 use Rattle.scrib_hold_stage.specs.Stages.{HasStaged, Expires, IsUnreleased, AreAllReleased, IsReleasedInAll}
+use Rattle.scrib_cli.specs.Requests.{RequestReply, AnswersRequests}
 use Rattle.scrib_cli.specs.Scripts.{written}
 
 -- an event, and the format of the reply to it
@@ -74,6 +74,7 @@ abbrev pub passing : Entry → List Item
 passing (entry.Item (item.Step f (Note id e))) = []
 passing (entry.Item (item.Step f (Close id))) = []
 passing (entry.Item (item.Step f s)) = item.Step f s ∷ []
+passing (entry.Item (item.Sweep f)) = item.Sweep f ∷ []
 passing (entry.Item (item.BadLine n)) = item.BadLine n ∷ []
 passing (entry.Item item.EndOfText) = []
 passing entry.Skipped = []
@@ -182,12 +183,12 @@ pub record IsOutputOf (o : Format) (bound : ℕ) (entries : List Entry) (counts 
     : Type 0 where
   pub expired : List (Noted Asked)
   pub items : List Item
-  pub replies : List Reply
+  pub replies : List RequestReply
   pub after : State
   pub held : AreHeldItems bound entries expired items
   pub events_counted : counts.events ≡ length (noted_in (staged_from 1 entries))
   pub expired_counted : counts.expired ≡ length expired
-  pub answered : Answers initial (steps_of items) replies after
+  pub answered : AnswersRequests initial (requests_of items) replies after
   pub is : output ≡ written o items replies
 
 -- the items that entries let out where others follow, or those of a whole script
@@ -203,12 +204,12 @@ pub record IsBeginningOf (o : Format) (bound : ℕ) (entries : List Entry) (part
   pub later : List Entry
   pub items : List Item
   pub undone : List Item
-  pub replies : List Reply
+  pub replies : List RequestReply
   pub after : State
   pub unwritten : List ℕ
   pub entries_are : entries ≡ first ++ later
   pub let_out : AreLetOut bound first later (items ++ undone)
-  pub answered : Answers initial (steps_of items) replies after
+  pub answered : AnswersRequests initial (requests_of items) replies after
   pub is : written o items replies ≡ part ++ unwritten
 
 -- An output of a script with its events held back, none for longer than the bound, and the counts of its events.

@@ -45,7 +45,7 @@ impl<S: ItemSink> HeldMonitor<S> {
     ghost use Rattle.scrib_hold_stage.specs.Stages.{stage_state};
     ghost use Rattle.scrib_hold.specs.NumberedItems.{numbered_closed};
     ghost use Rattle.scrib_hold.specs.Sinks.{FailsWithin, GathersItems};
-    ghost use Rattle.scrib_hold.specs.HeldMonitors.{EndFails, Ends, FailsAtEntry, HasNoneWaiting, HasSomeWaiting, HasTaken, IsCount, TakesEntry};
+    ghost use Rattle.scrib_hold.specs.HeldMonitors.{EndFails, Ends, FailsAtEntry, HasNoneLeft, HasNoneWaiting, HasSomeWaiting, HasTaken, IsCount, TakesEntry};
     ghost use Rattle.scrib_hold.specs.EntrySteps.{CloseFails, CloseReadyFails, ClosesBefore, ClosesOne, ClosesReady, IsSameButReleased, ReadFails, ReadsEntry};
 
     /// Returns a new monitor over this sink. An event waits while at most `bound` further entries are taken.
@@ -77,6 +77,13 @@ impl<S: ItemSink> HeldMonitor<S> {
         ensures none { IsFalse result → HasNoneWaiting id self.now }
     {
         self.stage.waits(id) || self.pending.has_of(id)
+    }
+
+    /// Whether the stage has met the conversation since it was last closed, or a closing of it waits.
+    pub fn has_left(&self, id: u32) -> bool
+        ensures { IsFalse result → HasNoneLeft id self.now }
+    {
+        self.stage.has_met(id) || self.pending.has_of(id)
     }
 
     /// Takes the entry of the next line, as [`HeldMonitor::take`] does. An event that is released at once, which most

@@ -80,6 +80,7 @@ fn staged_of(entry: Entry) -> Staged
 {
     match entry {
         Entry::Item(Item::Step(format, step)) => staged_step(format, step),
+        Entry::Item(Item::Sweep(format)) => Staged::Other(Some(Item::Sweep(format))),
         Entry::Item(Item::BadLine(number)) => Staged::Other(Some(Item::BadLine(number))),
         Entry::Item(Item::EndOfText) => Staged::Other(None),
         Entry::Skipped => Staged::Other(None),

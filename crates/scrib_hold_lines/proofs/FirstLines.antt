@@ -11,14 +11,15 @@ use Rattle.scrib_script_reader.specs.declared.entry.Entry.{Entry}
 use Rattle.scrib_script_reader.specs.declared.entry.Entry.TheVariants as entry
 use Rattle.scrib_script_reader.specs.Fields.{fields}
 use Rattle.scrib_script_reader.specs.Steps.{MakesStep}
-use Rattle.scrib_script_reader.specs.Says.{Says, IsSkipped, Asks, Puts, MakesIn}
+use Rattle.scrib_script_reader.specs.Says.{Says, IsSkipped, Asks, Puts, Sweeps, MakesIn}
 use Rattle.scrib_script_reader.specs.Scripts.{Text, empty_text, with_line, bare, text_end}
-use Rattle.scrib_script_reader.specs.Entries.{SpellsEntries, ends, skips, makes, is_bad, begins, goes_on, puts, stops}
+use Rattle.scrib_script_reader.specs.Entries.{SpellsEntries, ends, skips, makes, sweeps, is_bad, begins, goes_on, puts, stops}
 
 -- what a line outside module texts says of its entry
 abbrev pub LineGives : List ℕ → Entry → Type 0
 LineGives bytes entry.Skipped = Says bytes line.Skipped
 LineGives bytes (entry.Item (item.Step f s)) = Says bytes (line.Step f s)
+LineGives bytes (entry.Item (item.Sweep f)) = Says bytes (line.Sweep f)
 LineGives bytes (entry.Item (item.BadLine n)) = Says bytes line.Bad
 LineGives bytes (entry.Item item.EndOfText) = ⊥
 
@@ -48,6 +49,7 @@ pub inverts : {n : ℕ} {text : Option Text} {ls : List (List ℕ)} {all : List 
 inverts (ends n) = refl
 inverts (skips n l ls es says more) = inl (entry.Skipped, es, refl, says, more)
 inverts (makes n l ls es f s says more) = inl (entry.Item (item.Step f s), es, refl, says, more)
+inverts (sweeps n l ls es f says more) = inl (entry.Item (item.Sweep f), es, refl, says, more)
 inverts (is_bad n l ls es says more) = inl (entry.Item (item.BadLine n), es, refl, says, more)
 inverts (begins n l ls es f says more) = inr (f, says, more)
 inverts (goes_on n t l ls es ne more) = inl (ne, more)
@@ -91,9 +93,13 @@ same_rest fs x y format.Json format.Json a b = same_tail (codes "json") x y (sym
 step_put : (fs : List (List ℕ)) (f g : Format) (s : Step) → MakesIn fs f s → Puts fs g → ⊥
 step_put fs f g s m p = subst (λ (r : List (List ℕ)). MakesStep r s) (same_rest fs m.0 p.0 f g m.1 p.1 ∙ p.2) m.2
 
+sweep_put : (fs : List (List ℕ)) (f g : Format) → Sweeps fs f → Puts fs g → ⊥
+sweep_put fs f g s p = let e : codes "sweep" ∷ [] ≡ codes "put" ∷ [] = sym s.2 ∙ same_rest fs s.0 p.0 f g s.1 p.1 ∙ p.2 in cc
+
 pub put_apart : (bytes : List ℕ) (e : Entry) (f : Format) → LineGives bytes e → Says bytes (line.Put f) → ⊥
 put_apart bytes entry.Skipped f h p = skipped_put (fields bytes) f h.1 p.1
 put_apart bytes (entry.Item (item.Step g s)) f h p = step_put (fields bytes) g f s h.1 p.1
+put_apart bytes (entry.Item (item.Sweep g)) f h p = sweep_put (fields bytes) g f h.1 p.1
 put_apart bytes (entry.Item (item.BadLine n)) f (inl long) p = omega (arith, long, p.0)
 put_apart bytes (entry.Item (item.BadLine n)) f (inr none) p = none.1 f p.1
 put_apart bytes (entry.Item item.EndOfText) f h p = h

@@ -1,7 +1,7 @@
-mod SpelledLines
-mod TextLines
-mod PutTexts
-mod FirstLines
+pub mod SpelledLines
+pub mod TextLines
+pub mod PutTexts
+pub mod FirstLines
 mod Walks
 mod Placements
 mod LineGivings

@@ -30,6 +30,7 @@ abbrev pub Known : List ℕ → Entry → Type 0
 Known bytes entry.Skipped = Unit {0}
 Known bytes (entry.Item item.EndOfText) = Unit {0}
 Known bytes (entry.Item (item.BadLine n)) = Says bytes line.Bad
+Known bytes (entry.Item (item.Sweep f)) = Says bytes (line.Sweep f)
 Known bytes (entry.Item (item.Step f (Put put))) = IsPutText put
 Known bytes (entry.Item (item.Step f s)) = Says bytes (line.Step f s)
 
@@ -37,6 +38,7 @@ known_line : (bytes : List ℕ) (e : Entry) → LineGives bytes e → Known byte
 known_line bytes entry.Skipped h = tt
 known_line bytes (entry.Item item.EndOfText) h = tt
 known_line bytes (entry.Item (item.BadLine n)) h = h
+known_line bytes (entry.Item (item.Sweep f)) h = h
 known_line bytes (entry.Item (item.Step f (Put put))) h = absurd (no_put bytes f put h)
 known_line bytes (entry.Item (item.Step f s)) h = h
 
@@ -116,6 +118,12 @@ kept_step x f s says = elim (all_or_most 131074 x) [
   | inr long ↦ absurd (omega (arith, says.0, length-bare x, long.1))
 ]
 
+kept_sweep : (x : List ℕ) (f : Format) → Says (bare (x ++ 10 ∷ [])) (line.Sweep f) → Says (bare (take 131074 x ++ 10 ∷ [])) (line.Sweep f)
+kept_sweep x f says = elim (all_or_most 131074 x) [
+  | inl same ↦ subst (λ (t : List ℕ). Says (bare (t ++ 10 ∷ [])) (line.Sweep f)) (sym same) says
+  | inr long ↦ absurd (omega (arith, says.0, length-bare x, long.1))
+]
+
 kept_bad : (x : List ℕ) → Says (bare (x ++ 10 ∷ [])) line.Bad → Says (bare (take 131074 x ++ 10 ∷ [])) line.Bad
 kept_bad x says = elim (all_or_most 131074 x) [
   | inl same ↦ subst (λ (t : List ℕ). Says (bare (t ++ 10 ∷ [])) line.Bad) (sym same) says
@@ -125,6 +133,9 @@ kept_bad x says = elim (all_or_most 131074 x) [
 line_of_step : (x : List ℕ) (f : Format) (s : Step) → NoLf x → Says (bare (x ++ 10 ∷ [])) (line.Step f s) → IsLineOf (take 131074 x ++ 10 ∷ []) (line.Step f s)
 line_of_step x f s no_lf says = record { front = take 131074 x; is = refl; no_lf = All-take (λ b. b ≢ 10) 131074 x no_lf; says = kept_step x f s says }
 
+line_of_sweep : (x : List ℕ) (f : Format) → NoLf x → Says (bare (x ++ 10 ∷ [])) (line.Sweep f) → IsLineOf (take 131074 x ++ 10 ∷ []) (line.Sweep f)
+line_of_sweep x f no_lf says = record { front = take 131074 x; is = refl; no_lf = All-take (λ b. b ≢ 10) 131074 x no_lf; says = kept_sweep x f says }
+
 line_of_bad : (x : List ℕ) → NoLf x → Says (bare (x ++ 10 ∷ [])) line.Bad → IsLineOf (take 131074 x ++ 10 ∷ []) line.Bad
 line_of_bad x no_lf says = record { front = take 131074 x; is = refl; no_lf = All-take (λ b. b ≢ 10) 131074 x no_lf; says = kept_bad x says }
 
@@ -132,6 +143,7 @@ gives_kept : (x : List ℕ) (e : Entry) → NoLf x → Known (bare (x ++ 10 ∷ 
 gives_kept x entry.Skipped no_lf h = tt
 gives_kept x (entry.Item item.EndOfText) no_lf h = tt
 gives_kept x (entry.Item (item.BadLine n)) no_lf h = line_of_bad x no_lf h
+gives_kept x (entry.Item (item.Sweep f)) no_lf h = line_of_sweep x f no_lf h
 gives_kept x (entry.Item (item.Step f (Put put))) no_lf h = h
 gives_kept x (entry.Item (item.Step f s)) no_lf h = line_of_step x f s no_lf h
 
@@ -155,6 +167,12 @@ last_step x f s says = elim (all_or_most 131074 x) [
   | inr long ↦ absurd (omega (arith, says.0, long.1))
 ]
 
+last_sweep : (x : List ℕ) (f : Format) → Says x (line.Sweep f) → Says (take 131074 x) (line.Sweep f)
+last_sweep x f says = elim (all_or_most 131074 x) [
+  | inl same ↦ subst (λ (t : List ℕ). Says t (line.Sweep f)) (sym same) says
+  | inr long ↦ absurd (omega (arith, says.0, long.1))
+]
+
 last_bad : (x : List ℕ) → Says x line.Bad → Says (take 131074 x) line.Bad
 last_bad x says = elim (all_or_most 131074 x) [
   | inl same ↦ subst (λ (t : List ℕ). Says t line.Bad) (sym same) says
@@ -165,6 +183,7 @@ gives_last : (x text : List ℕ) (e : Entry) → IsLastLine (take 131074 x) text
 gives_last x text entry.Skipped l h = tt
 gives_last x text (entry.Item item.EndOfText) l h = tt
 gives_last x text (entry.Item (item.BadLine n)) l h = record { front = l.0.0; is = l.0.2; no_lf = l.0.1; says = subst (λ (t : List ℕ). Says t line.Bad) (sym l.1) (last_bad x h) }
+gives_last x text (entry.Item (item.Sweep f)) l h = record { front = l.0.0; is = l.0.2; no_lf = l.0.1; says = subst (λ (t : List ℕ). Says t (line.Sweep f)) (sym l.1) (last_sweep x f h) }
 gives_last x text (entry.Item (item.Step f (Put put))) l h = h
 gives_last x text (entry.Item (item.Step f s)) l h = record { front = l.0.0; is = l.0.2; no_lf = l.0.1; says = subst (λ (t : List ℕ). Says t (line.Step f s)) (sym l.1) (last_step x f s h) }
 

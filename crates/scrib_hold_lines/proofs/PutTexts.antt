@@ -238,16 +238,27 @@ put_full put h within = elim h.cut [
   | inr full ↦ full
 ]
 
-pub writes_put : (f : Format) (put tail : List ℕ) → IsPutText put → IsTail put tail → WritesItems (put_line f ++ (put ++ tail)) (item.Step f (Put put) ∷ [])
-writes_put f put tail h (inl k) =
-    let whole : AreTextLines put = subst AreTextLines (sym (put_uncut put h k.1)) h.whole in
-    subst (λ (t : List ℕ). WritesItems (put_line f ++ (put ++ t)) (item.Step f (Put put) ∷ [])) (sym k.0)
-    (writes_lines f put put whole (take_all 1048577 put (put_short put h)))
-writes_put f put tail h (inr k) =
+-- the lines that are written for a put are those of a text of which as much is put
+pub put_and_tail : (put tail : List ℕ) → IsPutText put → IsTail put tail → (text : List ℕ) × AreTextLines text × (text ++ codes "%%\n" ≡ put ++ tail) × (take 1048577 text ≡ put)
+put_and_tail put tail h (inl k) = (
+  put,
+  subst AreTextLines (sym (put_uncut put h k.1)) h.whole,
+  ap (λ (t : List ℕ). put ++ t) (sym k.0),
+  take_all 1048577 put (put_short put h),
+)
+put_and_tail put tail h (inr k) =
     let longer : AreTextLines (h.front ++ ((h.part ++ 46 ∷ []) ++ 10 ∷ [])) = text_lines_more h.whole (h.part ++ 46 ∷ []) (dotted_no_lf h.part h.no_lf) (dotted_no_end h.part) in
     let is : h.front ++ ((h.part ++ 46 ∷ []) ++ 10 ∷ []) ≡ put ++ codes ".\n" =
     ap (λ (t : List ℕ). h.front ++ t) (append_assoc h.part (46 ∷ []) (10 ∷ [])) ∙ sym (append_assoc h.front h.part (46 ∷ 10 ∷ [])) ∙ ap (λ (t : List ℕ). t ++ 46 ∷ 10 ∷ []) (sym h.is) in
     let taken : take 1048577 (put ++ codes ".\n") ≡ put =
-    ap (λ (n : ℕ). take n (put ++ codes ".\n")) (sym (put_full put h k.1)) ∙ take-append_seam put (codes ".\n") in
-    subst (λ (t : List ℕ). WritesItems (put_line f ++ t) (item.Step f (Put put) ∷ [])) (append_assoc put (codes ".\n") (codes "%%\n") ∙ ap (λ (t : List ℕ). put ++ t) (sym k.0))
-    (writes_lines f (put ++ codes ".\n") put (subst AreTextLines is longer) taken)
+    ap (λ (n : ℕ). take n (put ++ codes ".\n")) (sym (put_full put h k.1)) ∙ take-append_seam put (codes ".\n") in (
+      put ++ codes ".\n",
+      subst AreTextLines is longer,
+      append_assoc put (codes ".\n") (codes "%%\n") ∙ ap (λ (t : List ℕ). put ++ t) (sym k.0),
+      taken,
+    )
+
+pub writes_put : (f : Format) (put tail : List ℕ) → IsPutText put → IsTail put tail → WritesItems (put_line f ++ (put ++ tail)) (item.Step f (Put put) ∷ [])
+writes_put f put tail h k =
+    let w = put_and_tail put tail h k in
+    subst (λ (t : List ℕ). WritesItems (put_line f ++ t) (item.Step f (Put put) ∷ [])) w.2 (writes_lines f w.0 put w.1 w.3)

@@ -7,7 +7,7 @@ use Rattle.scrib_script_reader.specs.declared.line.Line.TheVariants as line
 use Rattle.scrib_script_reader.specs.declared.item.Item.{Item}
 use Rattle.scrib_script_reader.specs.declared.item.Item.TheVariants as item
 use Rattle.scrib_script_reader.specs.Says.{Says}
-use Rattle.scrib_script_reader.specs.Scripts.{ends, makes, is_bad, lines, bare}
+use Rattle.scrib_script_reader.specs.Scripts.{ends, makes, sweeps, is_bad, lines, bare}
 use Rattle.scrib_script_reader.proofs.Bytes.{lines_lf}
 use Rattle.scrib_hold_lines.specs.HeldLines.{SpellsButForNumbers}
 use Rattle.scrib_hold_lines.specs.Lines.{SpellsAnew, WritesItems, WritesItemsPart, IsLineOf}
@@ -25,6 +25,9 @@ anew_none = λ n. ([], ends n, refl)
 
 pub anew_step : (l : List ℕ) (ls : List (List ℕ)) (items : List Item) (f : Format) (s : Step) → Says (bare l) (line.Step f s) → SpellsAnew None ls items → SpellsAnew None (l ∷ ls) (item.Step f s ∷ items)
 anew_step l ls items f s says h = λ n. let p = h (n + 1) in (item.Step f s ∷ p.0, makes n l ls p.0 f s says p.1, ap (λ (x : List Item). item.Step f s ∷ x) p.2)
+
+pub anew_sweep : (l : List ℕ) (ls : List (List ℕ)) (items : List Item) (f : Format) → Says (bare l) (line.Sweep f) → SpellsAnew None ls items → SpellsAnew None (l ∷ ls) (item.Sweep f ∷ items)
+anew_sweep l ls items f says h = λ n. let p = h (n + 1) in (item.Sweep f ∷ p.0, sweeps n l ls p.0 f says p.1, ap (λ (x : List Item). item.Sweep f ∷ x) p.2)
 
 pub anew_bad : (l : List ℕ) (ls : List (List ℕ)) (items : List Item) (k : ℕ) → Says (bare l) line.Bad → SpellsAnew None ls items → SpellsAnew None (l ∷ ls) (item.BadLine k ∷ items)
 anew_bad l ls items k says h = λ n. let p = h (n + 1) in (item.BadLine n ∷ p.0, is_bad n l ls p.0 says p.1, ap (λ (x : List Item). item.BadLine 0 ∷ x) p.2)
@@ -45,6 +48,12 @@ pub writes_step : (text : List ℕ) (f : Format) (s : Step) → IsLineOf text (l
 writes_step text f s h = record {
   so = λ more rest r.
       subst (λ (ls : List (List ℕ)). SpellsAnew None ls (item.Step f s ∷ rest)) (sym (first_of text more (h.front, h.no_lf, h.is))) (anew_step text (lines more) rest f s h.says r);
+}
+
+pub writes_sweep : (text : List ℕ) (f : Format) → IsLineOf text (line.Sweep f) → WritesItems text (item.Sweep f ∷ [])
+writes_sweep text f h = record {
+  so = λ more rest r.
+      subst (λ (ls : List (List ℕ)). SpellsAnew None ls (item.Sweep f ∷ rest)) (sym (first_of text more (h.front, h.no_lf, h.is))) (anew_sweep text (lines more) rest f h.says r);
 }
 
 pub writes_bad : (text : List ℕ) (k : ℕ) → IsLineOf text line.Bad → WritesItems text (item.BadLine k ∷ [])

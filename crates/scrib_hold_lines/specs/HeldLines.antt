@@ -13,6 +13,7 @@ use Rattle.scrib_hold.specs.HeldScripts.{Asked, staged_from, AreHeldItems, AreLe
 -- the item, with 0 in place of the number of a bad line
 abbrev pub unnumbered : Item → Item
 unnumbered (item.Step f s) = item.Step f s
+unnumbered (item.Sweep f) = item.Sweep f
 unnumbered (item.BadLine n) = item.BadLine 0
 unnumbered item.EndOfText = item.EndOfText
 

@@ -84,6 +84,7 @@ abbrev pub GivesLine : List ℕ → Entry → Type 0
 GivesLine text entry.Skipped = Unit {0}
 GivesLine text (entry.Item item.EndOfText) = Unit {0}
 GivesLine text (entry.Item (item.BadLine n)) = IsLineOf text line.Bad
+GivesLine text (entry.Item (item.Sweep f)) = IsLineOf text (line.Sweep f)
 GivesLine text (entry.Item (item.Step f (Put put))) = IsPutText put
 GivesLine text (entry.Item (item.Step f s)) = IsLineOf text (line.Step f s)
 

@@ -81,6 +81,7 @@ fn staged_of(entry: Entry) -> Staged
 {
     match entry {
         Entry::Item(Item::Step(format, step)) => staged_step(format, step),
+        Entry::Item(Item::Sweep(_format)) => Staged::Other(Passing::Line),
         Entry::Item(Item::BadLine(_number)) => Staged::Other(Passing::Line),
         Entry::Item(Item::EndOfText) => Staged::Other(Passing::Nothing),
         Entry::Skipped => Staged::Other(Passing::Nothing),

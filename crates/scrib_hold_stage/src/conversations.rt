@@ -137,6 +137,13 @@ pub(crate) fn is_waiting<A: Arrival>(
     }
 }
 
+/// Whether the conversation was met.
+pub(crate) fn is_met<A: Arrival>(conversations: &IndexMap<u32, Conversation<A>>, id: u32) -> bool
+    ensures { IsFalse result → conversation_at conversations.now.entries id ≡ None }
+{
+    conversations.get(&id).is_some()
+}
+
 // Returns the place of the conversation, which is added where it was not met.
 #[inline(always)]
 fn meet<A: Arrival>(

@@ -9,7 +9,7 @@ ghost use Rattle.scrib_hold_stage.specs.Stages.{HasStaged, IsClosed, IsFinished,
 ghost use Rattle.scrib_hold_stage.specs.Steps.{AreAllExpired, IsExpiring, IsDeadlinePassed, IsDeadlineTaken, IsRipened, IsEntryTaken};
 
 use crate::conversation::Conversation;
-use crate::conversations::{is_not_oldest, is_waiting, open, pass_to, push_to, release_at};
+use crate::conversations::{is_met, is_not_oldest, is_waiting, open, pass_to, push_to, release_at};
 use crate::deadlines::{Deadline, none_due, only_due, pop_due, take_first_of};
 use crate::noted::Noted;
 use indexmap::IndexMap;
@@ -212,6 +212,13 @@ impl<A: Arrival> HoldStage<A> {
         ensures no { IsFalse result → waiting_at (conversation_at (stage_state self.now).conversations conversation) ≡ [] }
     {
         is_waiting(&self.conversations, conversation)
+    }
+
+    /// Whether the conversation was met since it was last closed: it was opened, or an event of it was read.
+    pub fn has_met(&self, conversation: u32) -> bool
+        ensures { IsFalse result → conversation_at (stage_state self.now).conversations conversation ≡ None }
+    {
+        is_met(&self.conversations, conversation)
     }
 
     /// Closes the conversation between two entries. Releases all that waits of it, the oldest first, and what the rule

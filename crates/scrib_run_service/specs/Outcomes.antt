@@ -81,10 +81,11 @@ IsReplyAmong _ a = ⊥
 abbrev pub IsReply : Step → ServiceReply → Type 0
 IsReply s a = ((kept : List (ℕ × PassHeld)) × IsMadeSome kept s a) ⊎ IsReplyAmong s a
 
--- the outcomes that the item may have
+-- the outcomes that the item may have; a sweep is reported as a bad line
 abbrev pub IsOutcome : Item → Outcome → Type 0
 IsOutcome (item.Step f s) (replied g a) = (g ≡ f) × (is_bad_step f s ≡ false) × IsReply s a
 IsOutcome (item.Step f s) (bad n) = is_bad_step f s ≡ true
+IsOutcome (item.Sweep f) (bad n) = ⊤
 IsOutcome (item.BadLine n) (bad m) = m ≡ n
 IsOutcome item.EndOfText ended = ⊤
 IsOutcome _ _ = ⊥

@@ -317,8 +317,8 @@ impl<'a> Connection<'a> {
     {
         match item {
             Item::Step(_, Step::Close { .. })
-            | Item::Step(Format::Json, Step::Turn { .. } | Step::Ask { .. }) =>
-                self.append_bad_line(number),
+            | Item::Step(Format::Json, Step::Turn { .. } | Step::Ask { .. })
+            | Item::Sweep(_) => self.append_bad_line(number),
             Item::Step(asked, step) => self.make(rt, asked, step),
             Item::BadLine(number) => self.append_bad_line(number),
             Item::EndOfText => self.append_end_of_text(),

@@ -4,17 +4,17 @@ use Rattle.std.proofs.lemmas.Bool.{ne_eqb}
 use Rattle.std.proofs.lemmas.List.{append_assoc}
 use Rattle.std.proofs.lemmas.List.Elements.{All-head, All-tail}
 use Rattle.scrib_core.specs.declared.format.Format.{Format}
-use Rattle.scrib_core.specs.declared.step.Step.{Step}
 use Rattle.scrib_core.specs.declared.step.Step.TheVariants.{Put}
-use Rattle.scrib_core.specs.declared.reply.Reply.{Reply}
+use Rattle.scrib_cli.specs.Requests.{RequestReply}
 use Rattle.scrib_script_reader.specs.declared.entry.Entry.{Entry}
 use Rattle.scrib_script_reader.specs.declared.entry.Entry.TheVariants as entry
+use Rattle.scrib_script_reader.specs.declared.item.Item.{Item}
 use Rattle.scrib_script_reader.specs.declared.item.Item.TheVariants as item
 use Rattle.scrib_script_reader.specs.declared.script.Script.{Script}
 use Rattle.scrib_script_reader.specs.declared.limits.Limits.{Limits}
 use Rattle.scrib_script_reader.specs.Limits.{line_feeds}
-use Rattle.scrib_script_reader.specs.Scripts.{NoLf, Text, lines, with_byte, steps_of}
-use Rattle.scrib_script_reader.specs.Entries.{SpellsEntries, ends, skips, makes, is_bad, begins, goes_on, puts, stops, entry_items}
+use Rattle.scrib_script_reader.specs.Scripts.{NoLf, Text, lines, with_byte, requests_of}
+use Rattle.scrib_script_reader.specs.Entries.{SpellsEntries, ends, skips, makes, sweeps, is_bad, begins, goes_on, puts, stops, entry_items}
 use Rattle.scrib_script_reader.specs.Positions.{HasRead}
 use Rattle.scrib_script_reader.proofs.PositionLemmas.{give_entries}
 use Rattle.scrib_show.specs.EventLines.{lines_after, event_lines}
@@ -94,27 +94,39 @@ counted m s seen entries r c =
     let same : length k.before ≡ length entries = omega (arith, one, one_entry k.tail, ap length k.is, length-append entries given.0, length-append k.before k.behind) in
     (has_text k.left, subst (λ (j : ℕ). Counts c.first false j (has_text k.left)) same k.counted)
 
--- the next entry behind a module text's line is its put
-inside_put : (id : ℕ) (r : Reply) (so : List ℕ) (f : Format) (s : Step) (rest : List Entry) {n : ℕ} {text : Text} {ls : List (List ℕ)} {entries : List Entry} (d : SpellsEntries n (Some text) ls entries)
-    → entries ≡ entry.Item (item.Step f s) ∷ rest → (bytes : List ℕ) × (s ≡ Put bytes) × (event_lines id d (r ∷ []) so ≡ so)
-inside_put id r so f s rest (goes_on n text l ls entries inside more) e = inside_put id r so f s rest more e
-inside_put id r so f s rest (puts n text l ls entries end more) e = (take 1_048_577 text.bytes, cc, none_left id so more)
-inside_put id r so f s rest (stops n text) e = cc
+-- the item asks for a step or a sweep
+abbrev pub Asks : Item → Type 0
+Asks (item.Step f s) = Unit {0}
+Asks (item.Sweep f) = Unit {0}
+Asks (item.BadLine n) = ⊥
+Asks item.EndOfText = ⊥
 
--- the line of a step that is the next entry
-step_line : (id : ℕ) (r : Reply) (so : List ℕ) (f : Format) (s : Step) (rest : List Entry) {n : ℕ} {text : Option Text} {ls : List (List ℕ)} {entries : List Entry} (d : SpellsEntries n text ls entries)
-    → entries ≡ entry.Item (item.Step f s) ∷ rest → ((bytes : List ℕ) → s ≡ Put bytes → lines_after id so n r ≡ so) → event_lines id d (r ∷ []) so ≡ lines_after id so n r
-step_line id r so f s rest (ends n) e put = cc
-step_line id r so f s rest (skips n l ls entries says more) e put = cc
-step_line id r so f s rest (makes n l ls entries g t says more) e put = none_left id (lines_after id so n r) more
-step_line id r so f s rest (is_bad n l ls entries says more) e put = cc
-step_line id r so f s rest (begins n l ls entries g says more) e put =
-    let p = inside_put id r so f s rest more e in p.2 ∙ sym (put p.0 p.1)
-step_line id r so f s rest (goes_on n text l ls entries inside more) e put =
-    let p = inside_put id r so f s rest (goes_on n text l ls entries inside more) e in p.2 ∙ sym (put p.0 p.1)
-step_line id r so f s rest (puts n text l ls entries end more) e put =
-    let p = inside_put id r so f s rest (puts n text l ls entries end more) e in p.2 ∙ sym (put p.0 p.1)
-step_line id r so f s rest (stops n text) e put = cc
+-- the item is a put of these bytes
+abbrev pub IsPut : Item → List ℕ → Type 0
+IsPut i bytes = (f : Format) × (i ≡ item.Step f (Put bytes))
+
+-- the next entry behind a module text's line is its put
+inside_put : (id : ℕ) (r : RequestReply) (so : List ℕ) (i : Item) (rest : List Entry) {n : ℕ} {text : Text} {ls : List (List ℕ)} {entries : List Entry} (d : SpellsEntries n (Some text) ls entries)
+    → entries ≡ entry.Item i ∷ rest → Asks i → (bytes : List ℕ) × IsPut i bytes × (event_lines id d (r ∷ []) so ≡ so)
+inside_put id r so i rest (goes_on n text l ls entries inside more) e asks = inside_put id r so i rest more e asks
+inside_put id r so i rest (puts n text l ls entries end more) e asks = (take 1_048_577 text.bytes, (text.format, cc), none_left id so more)
+inside_put id r so i rest (stops n text) e asks = let same : i ≡ item.EndOfText = cc in absurd (subst Asks same asks)
+
+-- the line of a step or a sweep that is the next entry
+item_line : (id : ℕ) (r : RequestReply) (so : List ℕ) (i : Item) (rest : List Entry) {n : ℕ} {text : Option Text} {ls : List (List ℕ)} {entries : List Entry} (d : SpellsEntries n text ls entries)
+    → entries ≡ entry.Item i ∷ rest → Asks i → ((bytes : List ℕ) → IsPut i bytes → lines_after id so n r ≡ so) → ((f : Format) → i ≡ item.Sweep f → lines_after id so n r ≡ so) → event_lines id d (r ∷ []) so ≡ lines_after id so n r
+item_line id r so i rest (ends n) e asks put swept = cc
+item_line id r so i rest (skips n l ls entries says more) e asks put swept = cc
+item_line id r so i rest (makes n l ls entries g t says more) e asks put swept = none_left id (lines_after id so n r) more
+item_line id r so i rest (sweeps n l ls entries g says more) e asks put swept = none_left id so more ∙ sym (swept g (let same : i ≡ item.Sweep g = cc in same))
+item_line id r so i rest (is_bad n l ls entries says more) e asks put swept = let same : i ≡ item.BadLine n = cc in absurd (subst Asks same asks)
+item_line id r so i rest (begins n l ls entries g says more) e asks put swept =
+    let p = inside_put id r so i rest more e asks in p.2 ∙ sym (put p.0 p.1)
+item_line id r so i rest (goes_on n text l ls entries inside more) e asks put swept =
+    let p = inside_put id r so i rest (goes_on n text l ls entries inside more) e asks in p.2 ∙ sym (put p.0 p.1)
+item_line id r so i rest (puts n text l ls entries end more) e asks put swept =
+    let p = inside_put id r so i rest (puts n text l ls entries end more) e asks in p.2 ∙ sym (put p.0 p.1)
+item_line id r so i rest (stops n text) e asks put swept = let same : i ≡ item.EndOfText = cc in absurd (subst Asks same asks)
 
 -- lists that are split at the same length
 same_front : {A : Type 0} (xs as_ ys bs : List A) → xs ++ ys ≡ as_ ++ bs → length xs ≡ length as_ → (xs ≡ as_) × (ys ≡ bs)
@@ -127,28 +139,28 @@ same_front (x ∷ xs) (a ∷ as_) ys bs e l =
     let p = same_front xs as_ ys bs tails (omega (arith, l)) in
     ((λ i. heads i ∷ p.0 i), p.1)
 
--- One step more, where the script is split behind the whole lines that are read.
-module _ (id : ℕ) (m : Limits) (s : Script) (seen : List ℕ) (entries : List Entry) (read : HasRead m s seen entries) (replies : List Reply) (numbers : List ℕ)
-    (made : length replies ≡ length (steps_of (entry_items entries))) (f : Format) (t : Step) (r : Reply)
-    (put : (bytes : List ℕ) → t ≡ Put bytes → (n : ℕ) → lines_after id numbers n r ≡ numbers) where
-  numbered_at : (c : Cut seen) (rest : List (List ℕ)) (more : List Entry) (d : SpellsEntries 1 None (c.first ++ rest) (entries ++ entry.Item (item.Step f t) ∷ more)) → event_lines id d replies [] ≡ numbers
+-- One step or sweep more, where the script is split behind the whole lines that are read.
+module _ (id : ℕ) (m : Limits) (s : Script) (seen : List ℕ) (entries : List Entry) (read : HasRead m s seen entries) (replies : List RequestReply) (numbers : List ℕ)
+    (made : length replies ≡ length (requests_of (entry_items entries))) (i : Item) (asks : Asks i) (r : RequestReply)
+    (put : (bytes : List ℕ) → IsPut i bytes → (n : ℕ) → lines_after id numbers n r ≡ numbers) (swept : (f : Format) → i ≡ item.Sweep f → (n : ℕ) → lines_after id numbers n r ≡ numbers) where
+  numbered_at : (c : Cut seen) (rest : List (List ℕ)) (more : List Entry) (d : SpellsEntries 1 None (c.first ++ rest) (entries ++ entry.Item i ∷ more)) → event_lines id d replies [] ≡ numbers
       → event_lines id d (replies ++ r ∷ []) [] ≡ lines_after id numbers (s.lines + 1) r
   numbered_at c rest more d known =
       let k = split id c.first rest d in
       let count = counted m s seen entries read c in
       let short : length k.before ≡ length entries = counts_once c.first false (length k.before) (length entries) (has_text k.left) count.0 k.counted count.1 in
-      let parts = same_front k.before entries k.behind (entry.Item (item.Step f t) ∷ more) (sym k.is) short in
-      let goes = k.goes replies (r ∷ []) [] (made ∙ ap (λ (es : List Entry). length (steps_of (entry_items es))) (sym parts.0)) in
+      let parts = same_front k.before entries k.behind (entry.Item i ∷ more) (sym k.is) short in
+      let goes = k.goes replies (r ∷ []) [] (made ∙ ap (λ (es : List Entry). length (requests_of (entry_items es))) (sym parts.0)) in
       let number : k.at ≡ s.lines + 1 = omega (arith, k.at_is, c.count, read.ended) in
       goes ∙ ap (event_lines id k.tail (r ∷ [])) known
-      ∙ step_line id r numbers f t more k.tail parts.1 (λ bytes e. put bytes e k.at)
+      ∙ item_line id r numbers i more k.tail parts.1 asks (λ bytes e. put bytes e k.at) (λ f e. swept f e k.at)
       ∙ ap (λ (n : ℕ). lines_after id numbers n r) number
 
-  pub numbered_step : (front : List ℕ) → AreEventLines id seen entries replies numbers
-      → AreEventLines id (seen ++ front) (entries ++ entry.Item (item.Step f t) ∷ []) (replies ++ r ∷ []) (lines_after id numbers (s.lines + 1) r)
-  numbered_step front known more rest =
+  pub numbered_item : (front : List ℕ) → AreEventLines id seen entries replies numbers
+      → AreEventLines id (seen ++ front) (entries ++ entry.Item i ∷ []) (replies ++ r ∷ []) (lines_after id numbers (s.lines + 1) r)
+  numbered_item front known more rest =
       let c = cut seen in
-      let e = entry.Item (item.Step f t) in
+      let e = entry.Item i in
       let here : lines (seen ++ (front ++ more)) ≡ c.first ++ lines (c.tail ++ (front ++ more)) = c.splits (front ++ more) in
       let known_here : (d : SpellsEntries 1 None (c.first ++ lines (c.tail ++ (front ++ more))) (entries ++ e ∷ rest)) → event_lines id d replies [] ≡ numbers =
       subst (λ (ls : List (List ℕ)). (d : SpellsEntries 1 None ls (entries ++ e ∷ rest)) → event_lines id d replies [] ≡ numbers) here (known (front ++ more) (e ∷ rest)) in
@@ -159,7 +171,7 @@ module _ (id : ℕ) (m : Limits) (s : Script) (seen : List ℕ) (entries : List 
       subst (λ (es : List Entry). goal (lines ((seen ++ front) ++ more)) es) (sym (append_assoc entries (e ∷ []) rest)) at_lines
 
 -- an entry that makes no step, or none
-pub numbered_same : (id : ℕ) (seen front : List ℕ) (entries next : List Entry) (replies : List Reply) (numbers : List ℕ) → AreEventLines id seen entries replies numbers → AreEventLines id (seen ++ front) (entries ++ next) replies numbers
+pub numbered_same : (id : ℕ) (seen front : List ℕ) (entries next : List Entry) (replies : List RequestReply) (numbers : List ℕ) → AreEventLines id seen entries replies numbers → AreEventLines id (seen ++ front) (entries ++ next) replies numbers
 numbered_same id seen front entries next replies numbers known more rest =
     let goal = λ (ls : List (List ℕ)) (es : List Entry). (d : SpellsEntries 1 None ls es) → event_lines id d replies [] ≡ numbers in
     let at_lines : goal (lines ((seen ++ front) ++ more)) (entries ++ (next ++ rest)) =

@@ -14,6 +14,7 @@ use Rattle.scrib_core.specs.declared.reply.Reply.{Reply}
 use Rattle.scrib_core.specs.declared.reply.Reply.TheVariants as reply
 use Rattle.scrib_core.specs.World.{World, Conversation, conversation, noted, opened, IsTakenOut}
 use Rattle.scrib_core.specs.Answers.{State, IsAnswered}
+use Rattle.scrib_cli.specs.Requests.{OfStep}
 use Rattle.scrib_show.specs.EventLines.{lines_after, HasEventFor}
 
 some_same : {A : Type 0} (x y : A) → Some x ≡ Some y → x ≡ y
@@ -89,17 +90,17 @@ pairs_closed w v i id so c out h d there = by (nat_eq i id) refl
     by false t = h d (sym (out.others id (λ e. true≢false (sym ((Decides-eqb i id).1 (sym e)) ∙ t))) ∙ there)
 
 -- a step that is answered
-pub pairs_step : (id n : ℕ) (so : List ℕ) (s t : State) (st : Step) (r : Reply) → IsAnswered s st r t → HasEventFor s.world id so → HasEventFor t.world id (lines_after id so n r)
+pub pairs_step : (id n : ℕ) (so : List ℕ) (s t : State) (st : Step) (r : Reply) → IsAnswered s st r t → HasEventFor s.world id so → HasEventFor t.world id (lines_after id so n (OfStep r))
 pairs_step id n so s t st (reply.Refused f) a h = subst (λ (u : State). HasEventFor u.world id so) (sym a.1) h
 pairs_step id n so s t (Put text) (reply.Edited e changes) a h = pairs_kept s.world t.world id so a.follows.3 h
 pairs_step id n so s t (Withdraw name) (reply.Edited e changes) a h = pairs_kept s.world t.world id so a.follows.3 h
 pairs_step id n so s t (step.Profile p) (reply.Profiled q) a h = pairs_kept s.world t.world id so (ap (λ (v : World). v.conversations) a.follows.1) h
 pairs_step id n so s t (Open i name) (reply.Opened j k) a h = λ c there.
     let there_i : lookup (nat_eq id) (s.world.conversations ++ (i, opened name) ∷ []) ≡ Some c = sym (ap (λ (v : World). conversation v id) a.follows.3) ∙ there in
-    subst (λ (x : ℕ). length (lines_after id so n (reply.Opened x k)) ≡ length c.log) (sym a.replies.0) (pairs_opened s.world.conversations i id n so name c a.follows.0 h there_i)
+    subst (λ (x : ℕ). length (lines_after id so n (OfStep (reply.Opened x k))) ≡ length c.log) (sym a.replies.0) (pairs_opened s.world.conversations i id n so name c a.follows.0 h there_i)
 pairs_step id n so s t (Note i e) (reply.Noted j place verdict) a h = λ c there.
     let there_i : lookup (nat_eq id) (set_value (nat_eq i) s.world.conversations (noted a.follows.0 e)) ≡ Some c = sym (ap (λ (v : World). conversation v id) a.follows.3) ∙ there in
-    subst (λ (x : ℕ). length (lines_after id so n (reply.Noted x place verdict)) ≡ length c.log) (sym a.replies.0) (pairs_noted s.world.conversations i id n so e a.follows.0 c a.follows.1 h there_i)
+    subst (λ (x : ℕ). length (lines_after id so n (OfStep (reply.Noted x place verdict))) ≡ length c.log) (sym a.replies.0) (pairs_noted s.world.conversations i id n so e a.follows.0 c a.follows.1 h there_i)
 pairs_step id n so s t (Turn i) (reply.Judged j name events verdict) a h = subst (λ (v : World). HasEventFor v id so) (sym a.follows.1) h
 pairs_step id n so s t (Ask i) (reply.Judged j name events verdict) a h = subst (λ (v : World). HasEventFor v id so) (sym a.follows.1) h
 pairs_step id n so s t (Close i) (reply.Closed j name events verdict complete) a h = pairs_closed s.world t.world i id so a.follows.0.0 a.follows.0.1 h

@@ -1,16 +1,13 @@
 -- What `show` prints of a conversation of a script (this project's own).
-use Rattle.std.specs.Prelude.{◌≡◌, ◌≢◌, ◌↔◌, ℕ, Bool, true, false, IsTrue, List, [], take, Option, Some, None, All, codes}
+use Rattle.std.specs.Prelude.{◌≡◌, ◌↔◌, ℕ, Bool, true, false, IsTrue, List, [], take, Option, Some, None, All, codes}
 use Rattle.scrib_types.specs.declared.event.Event.{Event}
 use Rattle.scrib_types.specs.Agreement.{Agreement}
 use Rattle.scrib_types.specs.Complete.{IsComplete}
 use Rattle.scrib_types.specs.Logs.{subject_of}
 use Rattle.scrib_library.specs.Modules.{IsMeaning}
-use Rattle.scrib_core.specs.declared.reply.Reply.{Reply}
-use Rattle.scrib_core.specs.declared.reply.Reply.TheVariants as reply
-use Rattle.scrib_core.specs.declared.reply.Refusal.TheVariants.{OutOfMemory}
 use Rattle.scrib_core.specs.World.{Conversation, conversation}
 use Rattle.scrib_core.specs.Marks.{IsStale}
-use Rattle.scrib_core.specs.Answers.{State, initial, Answers}
+use Rattle.scrib_core.specs.Answers.{State, initial}
 use Rattle.scrib_global.specs.declared.explain.Flight.{Flight}
 use Rattle.scrib_global.specs.declared.next.RoleStatus.{RoleStatus}
 use Rattle.scrib_global.specs.Explained.{IsExplained}
@@ -18,7 +15,8 @@ use Rattle.scrib_global.specs.NextEvents.{AreNext}
 use Rattle.scrib_reasons.specs.declared.reason.Reason.{Reason}
 use Rattle.scrib_script_reader.specs.declared.entry.Entry.{Entry}
 use Rattle.scrib_script_reader.specs.Entries.{SpellsEntries, entry_items}
-use Rattle.scrib_script_reader.specs.Scripts.{lines, steps_of}
+use Rattle.scrib_script_reader.specs.Scripts.{lines, requests_of}
+use Rattle.scrib_cli.specs.Requests.{RequestReply, HasMemory, AnswersRequests}
 use Rattle.scrib_cli.specs.Explanations.{refusal_line}
 use Rattle.scrib_show.specs.declared.show_form.ShowForm.{ShowForm}
 use Rattle.scrib_show.specs.declared.show_form.ShowForm.TheVariants.{Text, Chart}
@@ -63,14 +61,14 @@ pub data Shown (form : ShowForm) (s : State) (id : ℕ) (numbers : List ℕ) : B
       → IsOpen s id c stale → IsMeaning s.world.modules c.name o → IsShownAs form c stale numbers o shown text
       → Shown form s id numbers shown text
 
--- An output of `show` in this form for a conversation of a script, whose steps are made over a new monitor and are not
--- refused memory. It is shown in the state after them, with the numbers of the lines that noted its events.
+-- An output of `show` in this form for a conversation of a script, whose steps and sweeps are made over a new monitor
+-- and are not refused memory. It is shown in the state after them, with the numbers of the lines that noted its events.
 pub record IsShowOutput (form : ShowForm) (input : List ℕ) (id : ℕ) (shown : Bool) (output : List ℕ) : Type 0 where
   pub entries : List Entry
-  pub replies : List Reply
+  pub replies : List RequestReply
   pub after : State
   pub spelled : SpellsEntries 1 None (lines input) entries
-  pub answered : Answers initial (steps_of (entry_items entries)) replies after
-  pub none_refused : All (λ r. r ≢ reply.Refused OutOfMemory) replies
+  pub answered : AnswersRequests initial (requests_of (entry_items entries)) replies after
+  pub none_refused : All HasMemory replies
   pub paired : HasEventFor after.world id (event_lines id spelled replies [])
   pub is : Shown form after id (event_lines id spelled replies []) shown output

@@ -1,8 +1,8 @@
 //! Which lines are kept after the reply to a step.
 
 ghost use Rattle.std.specs.Prelude.{◌≡◌, IfErr, OnOk};
+ghost use Rattle.scrib_cli.specs.Requests.{HasMemory, OfStep};
 ghost use Rattle.scrib_show.specs.EventLines.{lines_after};
-ghost use Rattle.scrib_show.specs.Progress.{IsMade};
 ghost use Rattle.scrib_script_io.specs.declared.fault.ScriptFault.TheVariants.{OutOfMemory};
 
 use scrib_core::reply::{Refusal, Reply};
@@ -16,8 +16,9 @@ pub(crate) fn keep_line(
     number: u64,
     reply: &Reply,
 ) -> Result<(), ScriptFault>
-    ensures lines { OnOk result (numbers.new.items ≡ lines_after id numbers.old.items number reply.now) }
-    ensures made { OnOk result (IsMade reply.now) }
+    ensures lines { OnOk result (numbers.new.items ≡ lines_after id numbers.old.items number
+        (OfStep reply.now)) }
+    ensures made { OnOk result (HasMemory (OfStep reply.now)) }
     ensures fault { IfErr result (λ e. e ≡ OutOfMemory) }
 {
     match reply {

@@ -5,6 +5,7 @@ use scrib_core::monitor::Core;
 use scrib_script_io::fault::ScriptFault;
 use scrib_script_reader::entry::Entry;
 use scrib_script_reader::item::Item;
+use scrib_sweep::sweep::sweep;
 use std::alloc::Global;
 
 /// A monitor, and the numbers of the lines that noted the events of the conversation `id` since it was last opened.
@@ -35,8 +36,8 @@ impl LineMonitor {
         }
     }
 
-    // Makes the step of an entry that the line of this number gives. It fails where memory for the step or for the
-    // number is refused.
+    // Makes the step or the sweep of an entry that the line of this number gives. It fails where memory for it or for
+    // the number is refused.
     pub fn take(&mut self, entry: Entry, number: u64) -> Result<(), ScriptFault>
         ensures id { self.new.id ≡ self.old.id }
         ensures took { OnOk result (Takes self.old self.new number entry) }
@@ -47,6 +48,10 @@ impl LineMonitor {
                 let reply = self.core.apply(step);
                 keep_line(&mut self.numbers, self.id, number, &reply)
             }
+            Entry::Item(Item::Sweep(_)) => match sweep(*self.numbers.allocator(), &mut self.core) {
+                Ok(_judged) => Ok(()),
+                Err(_) => Err(ScriptFault::OutOfMemory),
+            },
             Entry::Item(Item::BadLine(_)) | Entry::Item(Item::EndOfText) | Entry::Skipped => Ok(()),
         }
     }

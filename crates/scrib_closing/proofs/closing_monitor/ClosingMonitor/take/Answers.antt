@@ -65,3 +65,21 @@ returns-in-Item-EndOfText-clause-err c =
     (λ same. subst (λ (x : Entry). FailsAtEntry c.args.self.now new x) (sym (c.in-Item-EndOfText.is ∙ ap (λ (i : Item). entry.Item i) c.in-Item-EndOfText.field-0-is)) (failed_items c.args.self.now new (entry.Item item.EndOfText)
     (part_none old.format (item.EndOfText ∷ []) (state_of old.core) old.gathered.bytes.items c.gather_item-in-Item-EndOfText.new.gathered.bytes.items same)))
     c.gather_item-in-Item-EndOfText.ensures.err
+
+pub returns-in-Item-Sweep-clause-ok : goal.returns-in-Item-Sweep-clause-ok
+returns-in-Item-Sweep-clause-ok c =
+    let old = c.args.self.now in
+    let new : ClosingMonitor = record c.args.self.now { core = c.gather_item-in-Item-Sweep.new.core; gathered = c.gather_item-in-Item-Sweep.new.gathered } in
+    on_ok_weaker c.gather_item-in-Item-Sweep.result
+    (λ d. subst (λ (x : Entry). TakesEntry c.args.self.now new x) (sym (c.in-Item-Sweep.is ∙ ap (λ (i : Item). entry.Item i) c.in-Item-Sweep.field-0-is)) (took_items c.args.self.now new (entry.Item (item.Sweep c.in-Item-Sweep.asked)) refl
+    (carried_item old.format (item.Sweep c.in-Item-Sweep.asked) (state_of old.core) (state_of c.gather_item-in-Item-Sweep.new.core) old.gathered.bytes.items c.gather_item-in-Item-Sweep.new.gathered.bytes.items tt d)))
+    c.gather_item-in-Item-Sweep.ensures.ok
+
+pub returns-in-Item-Sweep-clause-err : goal.returns-in-Item-Sweep-clause-err
+returns-in-Item-Sweep-clause-err c =
+    let old = c.args.self.now in
+    let new : ClosingMonitor = record c.args.self.now { core = c.gather_item-in-Item-Sweep.new.core; gathered = c.gather_item-in-Item-Sweep.new.gathered } in
+    on_err_weaker c.gather_item-in-Item-Sweep.result
+    (λ same. subst (λ (x : Entry). FailsAtEntry c.args.self.now new x) (sym (c.in-Item-Sweep.is ∙ ap (λ (i : Item). entry.Item i) c.in-Item-Sweep.field-0-is)) (failed_items c.args.self.now new (entry.Item (item.Sweep c.in-Item-Sweep.asked))
+    (part_none old.format ((item.Sweep c.in-Item-Sweep.asked) ∷ []) (state_of old.core) old.gathered.bytes.items c.gather_item-in-Item-Sweep.new.gathered.bytes.items same)))
+    c.gather_item-in-Item-Sweep.ensures.err
