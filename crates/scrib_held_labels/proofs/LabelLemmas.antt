@@ -10,7 +10,7 @@ use Rattle.scrib_held_labels.specs.declared.held_stage.HeldStage.{HeldStage}
 use Rattle.scrib_held_labels.specs.declared.waiting_labels.KeptLabel.{KeptLabel}
 use Rattle.scrib_held_labels.specs.HeldRuns.{labels_from, label_at}
 use Rattle.scrib_held_labels.specs.Stages.{LabelsEntry}
-use Rattle.scrib_held_labels.specs.WaitingLabels.{kept_at, label_kept}
+use Rattle.scrib_held_labels.specs.WaitingLabels.{kept_at, label_kept, without_text}
 
 -- the label behind others
 pub last_from : (k : ℕ) (entries : List LabelledEntry) (e : LabelledEntry) → labels_from k (entries ++ e ∷ []) (k + length entries) ≡ e.0
@@ -36,7 +36,7 @@ label_before entries e n within = other_from 1 entries e n (omega arith)
 pub labels_none : (s : HeldStage) (label : LineLabel) (e : Entry) → LabelsEntry s s label e
 labels_none s label e bound entries numbered taken within of = (
   λ n kept q. (let w = within n kept q in omega arith),
-  λ n kept q. of n kept q ∙ sym (label_before entries (label, e) n (within n kept q)),
+  λ n kept q. of n kept q ∙ ap without_text (sym (label_before entries (label, e) n (within n kept q))),
 )
 
 put_one : (b : Bool) (was now : Option KeptLabel) (put kept : KeptLabel) → now ≡ cond b (Some put) was → now ≡ Some kept → ((b ≡ true) × (put ≡ kept)) ⊎ (was ≡ Some kept)
@@ -44,7 +44,7 @@ put_one true was now put kept h q = inl (refl, cc)
 put_one false was now put kept h q = inr (sym h ∙ q)
 
 -- its label is kept under its number
-pub labels_put : (old new : HeldStage) (label : LineLabel) (e : Entry) (count number : ℕ) (put : KeptLabel) → IsCount old.held count → number ≡ count + 1 → label_kept put ≡ label
+pub labels_put : (old new : HeldStage) (label : LineLabel) (e : Entry) (count number : ℕ) (put : KeptLabel) → IsCount old.held count → number ≡ count + 1 → label_kept put ≡ without_text label
     → ((n : ℕ) → kept_at new.held.sink.waiting n ≡ update nat_eq (kept_at old.held.sink.waiting) number (Some put) n) → LabelsEntry old new label e
 labels_put old new label e count number put counts next is h bound entries numbered taken within of =
     let counted : count ≡ length entries = counts bound (map (λ e. e.1) entries) numbered taken ∙ length-map entries (λ e. e.1) in
@@ -55,7 +55,7 @@ labels_put old new label e count number put counts next is h bound entries numbe
         | inr before ↦ (let w = within n kept before in omega arith)
       ],
       λ n kept q. elim (each n kept q) [
-        | inl here ↦ ap label_kept (sym here.1) ∙ is ∙ sym (label_last entries (label, e) n (sym (eqb-true number n here.0) ∙ last))
-        | inr before ↦ of n kept before ∙ sym (label_before entries (label, e) n (within n kept before))
+        | inl here ↦ ap label_kept (sym here.1) ∙ is ∙ ap without_text (sym (label_last entries (label, e) n (sym (eqb-true number n here.0) ∙ last)))
+        | inr before ↦ of n kept before ∙ ap without_text (sym (label_before entries (label, e) n (within n kept before)))
       ],
     )

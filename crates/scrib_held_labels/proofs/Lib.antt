@@ -1,7 +1,7 @@
 mod CarryLemmas
 mod EntryLemmas
 mod LabelLemmas
-mod NameLemmas
+pub mod NameLemmas
 mod OutputLemmas
 mod SinkLemmas
 mod StageLemmas

@@ -24,7 +24,7 @@ plain entries = map (λ e. e.1) entries
 
 -- the label that stands for that of an entry that there is not
 abbrev pub no_label : LineLabel
-no_label = record { line = 0; tag = None; session = None }
+no_label = record { line = 0; text = []; tag = None; session = None }
 
 -- the label of entry n, where k is the number of the first
 abbrev pub labels_from : (k : ℕ) → List LabelledEntry → (n : ℕ) → LineLabel

@@ -202,6 +202,7 @@ impl EntryStage for HeldStage {
     fn note(&mut self, line: ExchangeLine<'_>) -> Result<(), AllocError> {
         let ExchangeLine {
             line,
+            text,
             tag,
             name,
             id,
@@ -210,6 +211,7 @@ impl EntryStage for HeldStage {
         } = line;
         let parts = LineParts {
             line,
+            text,
             tag,
             session: session_with(name, id),
         };

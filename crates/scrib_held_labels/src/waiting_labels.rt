@@ -17,7 +17,7 @@ pub(crate) struct KeptSession {
     pub(crate) number: u32,
 }
 
-/// The label of an entry.
+/// The label of an entry, without the bytes of its line.
 #[derive(Drop)]
 pub(crate) struct KeptLabel {
     line: u64,
@@ -31,7 +31,7 @@ impl KeptLabel {
     /// # Errors
     /// `AllocError` where memory is refused.
     pub(crate) fn new(alloc: Global, parts: LineParts<'_>) -> Result<KeptLabel, AllocError>
-        ensures { IfOk result (λ kept. spec.label_kept kept ≡ label_of parts.entry) }
+        ensures { IfOk result (λ kept. spec.label_kept kept ≡ spec.without_text (label_of parts.entry)) }
     {
         Ok(KeptLabel {
             line: parts.line,

@@ -8,7 +8,7 @@ use Rattle.scrib_labelled.specs.declared.label_options.LabelOptions.{LabelOption
 use Rattle.scrib_labelled.specs.LabelledEntries as entries
 use Rattle.scrib_labelled.specs.LabelledEntries.{LabelledEntry, SpellsLabelledEntries, all_entries, item_with, items_among}
 use Rattle.scrib_labelled.specs.LabelledLines.{LineLabel}
-use Rattle.scrib_labelled.specs.LabelledScripts.{LabelledText, SpellsLabelled, all_items, no_line, skips, makes, is_bad, begins, goes_on, puts, puts_object}
+use Rattle.scrib_labelled.specs.LabelledScripts.{LabelledText, SpellsLabelled, all_items, no_line, skips, makes, sweeps, is_bad, begins, goes_on, puts, puts_object}
 
 -- the items among some entries and others
 pub items_append : (es fs : List LabelledEntry) → items_among (es ++ fs) ≡ items_among es ++ items_among fs
@@ -32,6 +32,9 @@ items_spelled o _ _ _ _ (entries.skips ls n es l label s says at) =
 items_spelled o _ _ _ _ (entries.makes ls n es l label f s h says at) =
     subst (λ (is : List (LineLabel × Item)). SpellsLabelled o (ls ++ l ∷ []) (n + 1) None is) (sym (items_with_item es label (item.Step f s)))
     (makes ls n (items_among es) l label f s (items_spelled o ls n None es h) says at)
+items_spelled o _ _ _ _ (entries.sweeps ls n es l label f s says at) =
+    subst (λ (is : List (LineLabel × Item)). SpellsLabelled o (ls ++ l ∷ []) (n + 1) None is) (sym (items_with_item es label (item.Sweep f)))
+    (sweeps ls n (items_among es) l label f (items_spelled o ls n None es s) says at)
 items_spelled o _ _ _ _ (entries.is_bad ls n es l label s says at) =
     subst (λ (is : List (LineLabel × Item)). SpellsLabelled o (ls ++ l ∷ []) (n + 1) None is) (sym (items_with_item es label (item.BadLine n)))
     (is_bad ls n (items_among es) l label (items_spelled o ls n None es s) says at)

@@ -11,9 +11,9 @@ use Rattle.scrib_labelled.specs.declared.label_options.LabelOptions.{LabelOption
 use Rattle.scrib_labelled.specs.declared.labelled_run.LabelledRun.{LabelledRun}
 use Rattle.scrib_labelled.specs.declared.put_text.PutText.{PutText}
 use Rattle.scrib_labelled.specs.LabelledEntries.{LabelledEntry, SpellsLabelledEntries, all_entries}
-use Rattle.scrib_labelled.specs.LabelledLines.{LineLabel, line_limit}
+use Rattle.scrib_labelled.specs.LabelledLines.{IsCutOf, LineLabel, line_limit}
 use Rattle.scrib_labelled.specs.LabelledScripts.{LabelledText}
-use Rattle.scrib_labelled.specs.LineEnds.{EndsLast, EndsText, FailsLast, FailsText, HasLabel, IsCutOf, IsPutLabel, LastLineEnds, LastLineFails, LineEnds, LineFails, OfLines, PutFails, PutsText, of_cut, of_last, of_last_text_line}
+use Rattle.scrib_labelled.specs.LineEnds.{EndsLast, EndsText, FailsLast, FailsText, HasLabel, IsPutLabel, LastLineEnds, LastLineFails, LineEnds, LineFails, OfLines, PutFails, PutsText, of_cut, of_last, of_last_text_line}
 use Rattle.scrib_labelled.specs.Readings.{HoldsUnended, IsPartOfLines, kept_len}
 use Rattle.scrib_labelled.specs.Stages.{FailsEntry, OutputRelation, StageRelation, TakesEntry}
 use Rattle.scrib_labelled.proofs.LineEndLemmas.{gives_more, gives_put, line_failed, line_took, put_entry, same_label, took_nothing}
@@ -23,7 +23,7 @@ label-held : (kept : Option PutText) (t : Option LabelledText) → HoldsUnended 
 label-held None None h = tt
 label-held None (Some t) h = absurd h
 label-held (Some k) None h = absurd h
-label-held (Some k) (Some t) h = (h.tag, h.session, h.line)
+label-held (Some k) (Some t) h = (h.tag, h.session, h.line, h.head)
 
 -- ---- the last line
 
@@ -140,7 +140,7 @@ last_goes_on {S} Took gathered old new text kept stage is other = (
       record {
         after = Some after;
         given = [];
-        label = subst (λ (x : Option PutText). HasLabel x (Some after)) (sym is) (held.tag, held.session, held.line);
+        label = subst (λ (x : Option PutText). HasLabel x (Some after)) (sym is) (held.tag, held.session, held.line, held.head);
         gives = λ whole entries s. (
           old.count.lines + 1 + 1,
           subst (λ (ls : List (List ℕ)). SpellsLabelledEntries old.options (whole ++ ls) (old.count.lines + 1 + 1) (Some after) (entries ++ [])) (sym (one_last part some no_lf))
@@ -170,7 +170,7 @@ text_none {S} Took gathered old new none stage = record {
 with-end : (text : PutText) (label : LineLabel) (after : Option LabelledText) (entries : List LabelledEntry) → IsPutLabel text label → HasLabel (Some text) after → entries ++ (label, entry.Item item.EndOfText) ∷ [] ≡ all_entries after entries
 with-end text label None entries is held = absurd held
 with-end text label (Some t) entries is held =
-    sym (ap (λ (x : LineLabel). entries ++ (x, entry.Item item.EndOfText) ∷ []) (same_label label t.label.line t.label.tag t.label.session (is.line ∙ held.2) (is.tag ∙ held.0) (is.session ∙ sym held.1)))
+    sym (ap (λ (x : LineLabel). entries ++ (x, entry.Item item.EndOfText) ∷ []) (same_label label t.label.line t.label.text t.label.tag t.label.session (is.line ∙ held.2) (is.head ∙ held.3) (is.tag ∙ held.0) (is.session ∙ sym held.1)))
 
 pub text_ended : {S : Type 0} (Took : StageRelation S) (gathered : S → List ℕ) (old new : LabelledRun S) (text : PutText) (label : LineLabel) → old.text ≡ Some text → IsPutLabel text label
     → TakesEntry Took gathered old.stage new.stage label (entry.Item item.EndOfText) → EndsText Took gathered old new

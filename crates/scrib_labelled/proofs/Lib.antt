@@ -1,5 +1,5 @@
 mod SplitLemmas
-mod LineLemmas
+pub mod LineLemmas
 pub mod NameLemmas
 mod ExchangeLemmas
 mod ItemLemmas

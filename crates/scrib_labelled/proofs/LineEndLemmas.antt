@@ -1,6 +1,6 @@
 -- What a line that has ended changes.
 use Rattle.std.specs.Prelude.{is_some, not}
-use Rattle.std.proofs.Common.{◌≡◌, ◌≢◌, ◌∙◌, ◌+◌, ◌≤◌, inl, inr, ℕ, Bool, true, false, List, [], ◌∷◌, ◌++◌, Option, Some, None, take, length, refl, sym, ap, subst, arith}
+use Rattle.std.proofs.Common.{◌≡◌, ◌≢◌, ◌∙◌, ◌+◌, ◌≤◌, Vec, Global, inl, inr, ℕ, Bool, true, false, List, [], ◌∷◌, ◌++◌, Option, Some, None, take, length, refl, sym, ap, subst, arith}
 use Rattle.std.proofs.lemmas.List.{append-nil, append_assoc, length-take}
 use Rattle.scrib_core.specs.declared.format.Format.{Format}
 use Rattle.scrib_core.specs.declared.step.Step.{Step}
@@ -18,10 +18,10 @@ use Rattle.scrib_labelled.specs.declared.label_options.LabelOptions.{LabelOption
 use Rattle.scrib_labelled.specs.declared.labelled_run.LabelledRun.{LabelledRun}
 use Rattle.scrib_labelled.specs.declared.line_parts.LineParts.{LineParts}
 use Rattle.scrib_labelled.specs.declared.put_text.PutText.{PutText}
-use Rattle.scrib_labelled.specs.LabelledEntries.{LabelledEntry, SpellsLabelledEntries, begins, goes_on, is_bad, makes, puts, puts_object, skips}
-use Rattle.scrib_labelled.specs.LabelledLines.{IsPutObject, LineLabel, StandsFor, line_limit}
+use Rattle.scrib_labelled.specs.LabelledEntries.{LabelledEntry, SpellsLabelledEntries, begins, goes_on, is_bad, makes, puts, puts_object, skips, sweeps}
+use Rattle.scrib_labelled.specs.LabelledLines.{IsCutOf, IsLabelAt, IsPutObject, LineLabel, StandsFor, line_limit}
 use Rattle.scrib_labelled.specs.LabelledScripts.{LabelledText, SaysAs}
-use Rattle.scrib_labelled.specs.LineEnds.{EndsLine, FailsLine, Gives, IsCutOf, IsPutLabel, IsSameRun, LineEnds, LineFails, OfLines, nameless, of_cut, of_kept, of_meaning, of_object, of_text_line}
+use Rattle.scrib_labelled.specs.LineEnds.{EndsLine, FailsLine, Gives, IsPutLabel, IsSameRun, LineEnds, LineFails, OfLines, nameless, of_cut, of_kept, of_meaning, of_object, of_text_line}
 use Rattle.scrib_labelled.specs.NamedLines.{ReadsAs, ReadsRest, label_of}
 use Rattle.scrib_labelled.specs.Readings.{HoldsUnended, kept_len}
 use Rattle.scrib_labelled.specs.Stages.{FailsEntry, OutputRelation, StageRelation, TakesEntry}
@@ -66,24 +66,27 @@ kept_in_text o was text kept P is h before full held kept_is = in-text before (s
 
 -- the lines that an object with this tag stands for have the meaning of the line that it is spelled as
 pub object_means : (o : LabelOptions) (tag : Option (List ℕ)) (spelled : List ℕ) (label : LineLabel) (meaning : Line) (names : SessionNames) (P : OfLines) → label.tag ≡ tag
-    → ReadsRest names o.names spelled label.session meaning → of_meaning o label meaning P → of_object o tag spelled P
-object_means o tag spelled label meaning names P t r h = λ l says. h l (says label r.plain meaning t r.numbered r.says)
+    → ReadsRest names o.names spelled label.session meaning → of_meaning o label meaning P → of_object o label.text tag spelled P
+object_means o tag spelled label meaning names P t r h = λ l says cut. h l (says label r.plain meaning t r.numbered r.says) cut
 
 -- ---- the entries that a line gives
 
-pub gives_skipped : (o : LabelOptions) (n : ℕ) (l : List ℕ) (label : LineLabel) → SaysAs o (bare l) label line.Skipped → label.line ≡ n → Gives o n None l None ((label, entry.Skipped) ∷ [])
+pub gives_skipped : (o : LabelOptions) (n : ℕ) (l : List ℕ) (label : LineLabel) → SaysAs o (bare l) label line.Skipped → IsLabelAt o n l label → Gives o n None l None ((label, entry.Skipped) ∷ [])
 gives_skipped o n l label says at = λ whole entries s. skips whole n entries l label s says at
 
-pub gives_step : (o : LabelOptions) (n : ℕ) (l : List ℕ) (label : LineLabel) (f : Format) (s : Step) → SaysAs o (bare l) label (line.Step f s) → label.line ≡ n → Gives o n None l None ((label, entry.Item (item.Step f s)) ∷ [])
+pub gives_step : (o : LabelOptions) (n : ℕ) (l : List ℕ) (label : LineLabel) (f : Format) (s : Step) → SaysAs o (bare l) label (line.Step f s) → IsLabelAt o n l label → Gives o n None l None ((label, entry.Item (item.Step f s)) ∷ [])
 gives_step o n l label f s says at = λ whole entries h. makes whole n entries l label f s h says at
 
-pub gives_bad : (o : LabelOptions) (n : ℕ) (l : List ℕ) (label : LineLabel) → SaysAs o (bare l) label line.Bad → label.line ≡ n → Gives o n None l None ((label, entry.Item (item.BadLine n)) ∷ [])
+pub gives_sweep : (o : LabelOptions) (n : ℕ) (l : List ℕ) (label : LineLabel) (f : Format) → SaysAs o (bare l) label (line.Sweep f) → IsLabelAt o n l label → Gives o n None l None ((label, entry.Item (item.Sweep f)) ∷ [])
+gives_sweep o n l label f says at = λ whole entries s. sweeps whole n entries l label f s says at
+
+pub gives_bad : (o : LabelOptions) (n : ℕ) (l : List ℕ) (label : LineLabel) → SaysAs o (bare l) label line.Bad → IsLabelAt o n l label → Gives o n None l None ((label, entry.Item (item.BadLine n)) ∷ [])
 gives_bad o n l label says at = λ whole entries s. is_bad whole n entries l label s says at
 
 nothing-more : (o : LabelOptions) (ls : List (List ℕ)) (n : ℕ) (t : Option LabelledText) (entries : List LabelledEntry) → SpellsLabelledEntries o ls n t entries → SpellsLabelledEntries o ls n t (entries ++ [])
 nothing-more o ls n t entries s = subst (λ (es : List LabelledEntry). SpellsLabelledEntries o ls n t es) (sym (append-nil entries)) s
 
-pub gives_begin : (o : LabelOptions) (n : ℕ) (l : List ℕ) (label : LineLabel) (f : Format) → SaysAs o (bare l) label (line.Put f) → label.line ≡ n → Gives o n None l (Some (record { text = empty_text f; label = label })) []
+pub gives_begin : (o : LabelOptions) (n : ℕ) (l : List ℕ) (label : LineLabel) (f : Format) → SaysAs o (bare l) label (line.Put f) → IsLabelAt o n l label → Gives o n None l (Some (record { text = empty_text f; label = label })) []
 gives_begin o n l label f says at = λ whole entries s.
     nothing-more o (whole ++ l ∷ []) (n + 1) (Some (record { text = empty_text f; label = label })) entries (begins whole n entries l label f s says at)
 
@@ -96,28 +99,30 @@ abbrev pub put_entry : Format → List ℕ → Entry
 put_entry f bytes = entry.Item (item.Step f (Put bytes))
 
 -- a label with these parts
-pub same_label : (label : LineLabel) (n : ℕ) (tag : Option (List ℕ)) (session : Option (List ℕ × ℕ)) → label.line ≡ n → label.tag ≡ tag → label.session ≡ session → record { line = n; tag = tag; session = session } ≡ label
-same_label label n tag session at t s =
-    ap (λ (x : ℕ). record { line = x; tag = tag; session = session }) (sym at)
-    ∙ ap (λ (x : Option (List ℕ)). record { line = label.line; tag = x; session = session }) (sym t)
-    ∙ ap (λ (x : Option (List ℕ × ℕ)). record { line = label.line; tag = label.tag; session = x }) (sym s)
+pub same_label : (label : LineLabel) (n : ℕ) (text : List ℕ) (tag : Option (List ℕ)) (session : Option (List ℕ × ℕ)) → label.line ≡ n → label.text ≡ text → label.tag ≡ tag → label.session ≡ session
+    → record { line = n; text = text; tag = tag; session = session } ≡ label
+same_label label n text tag session at read t s =
+    ap (λ (x : ℕ). record { line = x; text = text; tag = tag; session = session }) (sym at)
+    ∙ ap (λ (x : List ℕ). record { line = label.line; text = x; tag = tag; session = session }) (sym read)
+    ∙ ap (λ (x : Option (List ℕ)). record { line = label.line; text = label.text; tag = x; session = session }) (sym t)
+    ∙ ap (λ (x : Option (List ℕ × ℕ)). record { line = label.line; text = label.text; tag = label.tag; session = x }) (sym s)
 
 pub gives_put : (o : LabelOptions) (n : ℕ) (l : List ℕ) (text : PutText) (t : LabelledText) (label : LineLabel) → HoldsText text t → IsPutLabel text label → bare l ≡ text_end
     → Gives o n (Some t) l None ((label, put_entry text.format text.bytes.items) ∷ [])
 gives_put o n l text t label h is ended = λ whole entries s.
-    let labelled : t.label ≡ label = same_label label t.label.line t.label.tag t.label.session (is.line ∙ h.line) (is.tag ∙ h.tag) (is.session ∙ sym h.session) in
+    let labelled : t.label ≡ label = same_label label t.label.line t.label.text t.label.tag t.label.session (is.line ∙ h.line) (is.head ∙ h.head) (is.tag ∙ h.tag) (is.session ∙ sym h.session) in
     subst (λ (b : LineLabel). SpellsLabelledEntries o (whole ++ l ∷ []) (n + 1) None (entries ++ (b, put_entry text.format text.bytes.items) ∷ [])) labelled
     (subst (λ (f : Format). SpellsLabelledEntries o (whole ++ l ∷ []) (n + 1) None (entries ++ (t.label, put_entry f text.bytes.items) ∷ [])) (sym h.format)
     (subst (λ (b : List ℕ). SpellsLabelledEntries o (whole ++ l ∷ []) (n + 1) None (entries ++ (t.label, put_entry t.text.format b) ∷ [])) (sym h.bytes)
     (puts whole n entries l t s ended)))
 
-pub gives_put_object : (o : LabelOptions) (n : ℕ) (l bytes : List ℕ) (text : PutText) (label : LineLabel) → IsPutLabel text label → text.line ≡ n → text.bytes.items ≡ take 1048577 bytes
-    → IsPutObject o (bare l) (nameless n (tag_in text)) text.format bytes → Gives o n None l None ((label, put_entry text.format text.bytes.items) ∷ [])
-gives_put_object o n l bytes text label is at kept puts_it = λ whole entries s.
-    let labelled : nameless n (tag_in text) ≡ label = same_label label n (tag_in text) None (is.line ∙ at) is.tag is.session in
+pub gives_put_object : (o : LabelOptions) (n : ℕ) (l cut bytes : List ℕ) (text : PutText) (label : LineLabel) → IsPutLabel text label → text.line ≡ n → text.head.items ≡ cut → IsCutOf o cut l → text.bytes.items ≡ take 1048577 bytes
+    → IsPutObject o (bare l) (nameless n cut (tag_in text)) text.format bytes → Gives o n None l None ((label, put_entry text.format text.bytes.items) ∷ [])
+gives_put_object o n l cut bytes text label is at head read kept puts_it = λ whole entries s.
+    let labelled : nameless n cut (tag_in text) ≡ label = same_label label n cut (tag_in text) None (is.line ∙ at) (is.head ∙ head) is.tag is.session in
     subst (λ (b : LineLabel). SpellsLabelledEntries o (whole ++ l ∷ []) (n + 1) None (entries ++ (b, put_entry text.format text.bytes.items) ∷ [])) labelled
-    (subst (λ (b : List ℕ). SpellsLabelledEntries o (whole ++ l ∷ []) (n + 1) None (entries ++ (nameless n (tag_in text), put_entry text.format b) ∷ [])) (sym kept)
-    (puts_object whole n entries l (nameless n (tag_in text)) text.format bytes s puts_it refl))
+    (subst (λ (b : List ℕ). SpellsLabelledEntries o (whole ++ l ∷ []) (n + 1) None (entries ++ (nameless n cut (tag_in text), put_entry text.format b) ∷ [])) (sym kept)
+    (puts_object whole n entries l (nameless n cut (tag_in text)) text.format bytes s puts_it (refl, read)))
 
 -- ---- what a line changes
 
@@ -233,14 +238,14 @@ line_goes_on Took o n now full kept text text2 t h more kept_is other =
     ∙ ap (take 1048577) (append_assoc (take 1048577 t.text.bytes) (take 1048577 full) (10 ∷ []))
     ∙ take_kept_line 1048577 t.text.bytes full (10 ∷ []) in
     line_silent Took o n now (Some text2) (Some t) (Some after) (full ++ 10 ∷ [])
-    (record { bytes = bytes; format = more.format ∙ h.format; tag = more.tag ∙ h.tag; session = h.session; line = more.line ∙ h.line }) (gives_more o n (full ++ 10 ∷ []) t other)
+    (record { bytes = bytes; format = more.format ∙ h.format; tag = more.tag ∙ h.tag; session = h.session; line = more.line ∙ h.line; head = ap (λ (v : Vec ℕ Global). v.items) more.head ∙ h.head }) (gives_more o n (full ++ 10 ∷ []) t other)
 
 -- the first line of a put
 pub line_begins : {S : Type 0} (Took : StageRelation S) (o : LabelOptions) (n : ℕ) (now : S) (l : List ℕ) (label : LineLabel) (f : Format) (t : PutText)
-    → t.bytes.items ≡ [] → t.format ≡ f → tag_in t ≡ label.tag → t.line ≡ label.line → SaysAs o (bare l) label (line.Put f) → label.line ≡ n → LineEnds Took o n now now (Some t) [] None l
-line_begins Took o n now l label f t none f_is tag number says at =
+    → t.bytes.items ≡ [] → t.format ≡ f → tag_in t ≡ label.tag → t.line ≡ label.line → t.head.items ≡ label.text → SaysAs o (bare l) label (line.Put f) → IsLabelAt o n l label → LineEnds Took o n now now (Some t) [] None l
+line_begins Took o n now l label f t none f_is tag number head says at =
     line_silent Took o n now (Some t) None (Some (record { text = empty_text f; label = label })) l
-    (record { bytes = none ∙ sym (take_of_none 1048577); format = f_is; tag = tag; session = put_no_session o (bare l) label says.0 f says.1 says.2; line = number }) (gives_begin o n l label f says at)
+    (record { bytes = none ∙ sym (take_of_none 1048577); format = f_is; tag = tag; session = put_no_session o (bare l) label says.0 f says.1 says.2; line = number; head = head }) (gives_begin o n l label f says at)
 
 -- what was ended or failed for some lines, for those that they stand for
 pub ends_of : {S : Type 0} (Took : StageRelation S) (gathered : S → List ℕ) (old new : LabelledRun S) (A B : OfLines → Type 0) → ((P : OfLines) → A P → B P) → EndsLine Took gathered old new A → EndsLine Took gathered old new B

@@ -10,7 +10,7 @@ use Rattle.scrib_core.specs.declared.step.Step.{Step}
 use Rattle.scrib_script_reader.specs.declared.line.Line.{Line}
 use Rattle.scrib_script_reader.specs.declared.line.Line.TheVariants as line
 use Rattle.scrib_script_reader.specs.Fields.{fields}
-use Rattle.scrib_script_reader.specs.Says.{Asks, IsSkipped, MakesIn, Puts, Says}
+use Rattle.scrib_script_reader.specs.Says.{Asks, IsSkipped, MakesIn, Puts, Says, Sweeps}
 use Rattle.scrib_script_reader.specs.Steps.{MakesStep}
 use Rattle.scrib_labels.specs.declared.session_line.SessionLine.{SessionLine}
 use Rattle.scrib_labels.specs.SessionLines.{IsSessionLine, id_field, bare_id_field, is_event_word, is_id_word, is_state_word, json_field}
@@ -44,6 +44,9 @@ mark-asks format.Line rest h = h.0
 mark-puts : (f : Format) → Puts mark_fields f → ⊥
 mark-puts f h = omega (arith, ap length (heads (63 ∷ []) (codes "put") [] [] (sym (mark-asks f h.0 h.1) ∙ h.2)))
 
+mark-sweeps : (f : Format) → Sweeps mark_fields f → ⊥
+mark-sweeps f h = omega (arith, ap length (heads (63 ∷ []) (codes "sweep") [] [] (sym (mark-asks f h.0 h.1) ∙ h.2)))
+
 mark-makes : (f : Format) (s : Step) → MakesIn mark_fields f s → ⊥
 mark-makes f s h = subst (λ (fs : List (List ℕ)). MakesStep fs s) (mark-asks f h.0 h.1) h.2
 
@@ -52,6 +55,7 @@ bad-mark : Says (63 ∷ []) line.Bad
 bad-mark = inr (
   λ h. omega (arith, subst IsSkipped mark-fields h),
   λ f h. mark-puts f (subst (λ (fs : List (List ℕ)). Puts fs f) mark-fields h),
+  λ f h. mark-sweeps f (subst (λ (fs : List (List ℕ)). Sweeps fs f) mark-fields h),
   λ f s h. mark-makes f s (subst (λ (fs : List (List ℕ)). MakesIn fs f s) mark-fields h),
 )
 

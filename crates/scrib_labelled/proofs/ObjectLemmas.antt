@@ -7,9 +7,9 @@ use Rattle.scrib_objects.specs.Objects.{IsObjectLine, Spelled, as_bad, as_line, 
 use Rattle.scrib_objects.specs.declared.object_line.ObjectBody.{ObjectBody}
 use Rattle.scrib_objects.specs.declared.object_line.ObjectLine.{ObjectLine}
 use Rattle.scrib_labelled.specs.declared.label_options.LabelOptions.{LabelOptions}
-use Rattle.scrib_labelled.specs.LabelledLines.{IsLineOf, IsNumbered, IsObjectBody, IsPutObject, LineLabel, StandsFor, line_limit, object_options}
+use Rattle.scrib_labelled.specs.LabelledLines.{IsCutOf, IsLineOf, IsNumbered, IsObjectBody, IsPutObject, LineLabel, StandsFor, line_limit, object_options}
 use Rattle.scrib_labelled.specs.LabelledScripts.{SaysAs}
-use Rattle.scrib_labelled.specs.LineEnds.{IsCutOf, SaysObject, nameless}
+use Rattle.scrib_labelled.specs.LineEnds.{SaysObject, nameless}
 use Rattle.scrib_labelled.specs.ObjectLines.{IsObjectRead}
 use Rattle.scrib_labelled.proofs.LineLemmas.{bad_mark}
 
@@ -54,24 +54,24 @@ says_object o cut tag bytes on read l is = λ label plain meaning t numbered say
 
 -- a bad object with its tag
 pub says_bad_object : (o : LabelOptions) (cut : List ℕ) (n : ℕ) (tag : Option (List ℕ)) → o.objects ≡ true → IsObjectRead o cut (Some (record { tag = tag; body = as_bad }))
-    → (l : List ℕ) → IsCutOf o cut l → SaysAs o (bare l) (nameless n tag) line.Bad
+    → (l : List ℕ) → IsCutOf o cut l → SaysAs o (bare l) (nameless n cut tag) line.Bad
 says_bad_object o cut n tag on read l is =
     let found = some-read o cut (record { tag = tag; body = as_bad }) read in
     let same = whole-cut o l cut on is found.0 in
-    (63 ∷ [], inr (object-says o (bare l) (record { tag = tag; body = as_bad }) (nameless n tag) (63 ∷ []) on (subst (λ (t : List ℕ). length t ≤ 8388608) same found.0) (subst (λ (t : List ℕ). IsObjectLine (object_options o) t (Some (record { tag = tag; body = as_bad }))) same found.1) refl (refl, bad_mark)), bad_mark)
+    (63 ∷ [], inr (object-says o (bare l) (record { tag = tag; body = as_bad }) (nameless n cut tag) (63 ∷ []) on (subst (λ (t : List ℕ). length t ≤ 8388608) same found.0) (subst (λ (t : List ℕ). IsObjectLine (object_options o) t (Some (record { tag = tag; body = as_bad }))) same found.1) refl (refl, bad_mark)), bad_mark)
 
 -- no object
-pub says_no_object : (o : LabelOptions) (cut : List ℕ) (n : ℕ) → o.objects ≡ true → IsObjectRead o cut None → (l : List ℕ) → IsCutOf o cut l → SaysAs o (bare l) (nameless n None) line.Bad
+pub says_no_object : (o : LabelOptions) (cut : List ℕ) (n : ℕ) → o.objects ≡ true → IsObjectRead o cut None → (l : List ℕ) → IsCutOf o cut l → SaysAs o (bare l) (nameless n cut None) line.Bad
 says_no_object o cut n on (inl long) l (inl same) = (63 ∷ [], inl (omega (arith, long.0, ap length same, limit-of-objects o on), (refl, refl), bad_mark), bad_mark)
 says_no_object o cut n on (inl long) l (inr more) = (63 ∷ [], inl (more.1, (refl, refl), bad_mark), bad_mark)
 says_no_object o cut n on (inr bad) l is =
     let same = whole-cut o l cut on is bad.0 in
     let short : length (bare l) ≤ 8388608 = subst (λ (t : List ℕ). length t ≤ 8388608) same bad.0 in
-    (63 ∷ [], inr (omega (arith, short, limit-of-objects o on), subst (λ (b : Bool). IsLineOf b o (bare l) (nameless n None) (63 ∷ [])) (sym on) (None, subst (λ (t : List ℕ). IsObjectLine (object_options o) t None) same bad.1, ((refl, refl), bad_mark))), bad_mark)
+    (63 ∷ [], inr (omega (arith, short, limit-of-objects o on), subst (λ (b : Bool). IsLineOf b o (bare l) (nameless n cut None) (63 ∷ [])) (sym on) (None, subst (λ (t : List ℕ). IsObjectLine (object_options o) t None) same bad.1, ((refl, refl), bad_mark))), bad_mark)
 
 -- an object that puts a text
 pub says_put_object : (o : LabelOptions) (cut : List ℕ) (n : ℕ) (tag : Option (List ℕ)) (f : Format) (text : List ℕ) → o.objects ≡ true → IsObjectRead o cut (Some (record { tag = tag; body = as_put f text }))
-    → (l : List ℕ) → IsCutOf o cut l → IsPutObject o (bare l) (nameless n tag) f text
+    → (l : List ℕ) → IsCutOf o cut l → IsPutObject o (bare l) (nameless n cut tag) f text
 says_put_object o cut n tag f text on read l is =
     let found = some-read o cut (record { tag = tag; body = as_put f text }) read in
     let same = whole-cut o l cut on is found.0 in

@@ -19,7 +19,7 @@ named_id name id = option_map (λ n. (n, id)) (bytes_of name)
 
 -- the label of the line
 abbrev pub exchange_label : ExchangeLine → LineLabel
-exchange_label e = record { line = e.line; tag = bytes_of e.tag; session = named_id e.name e.id }
+exchange_label e = record { line = e.line; text = e.text.now; tag = bytes_of e.tag; session = named_id e.name e.id }
 
 -- the line without its tag is this exchange, where conversations have names or not
 pub record IsExchangeIn (names : SessionNames) (named : Bool) (rest : List ℕ) (e : Exchange) : Type 0 where

@@ -10,7 +10,7 @@ use Rattle.scrib_script_reader.specs.declared.item.Item.TheVariants as item
 use Rattle.scrib_script_reader.specs.declared.line.Line.TheVariants as line
 use Rattle.scrib_script_reader.specs.Scripts.{bare, empty_text, text_end, with_line}
 use Rattle.scrib_labelled.specs.declared.label_options.LabelOptions.{LabelOptions}
-use Rattle.scrib_labelled.specs.LabelledLines.{IsPutObject, LineLabel}
+use Rattle.scrib_labelled.specs.LabelledLines.{IsLabelAt, IsPutObject, LineLabel}
 use Rattle.scrib_labelled.specs.LabelledScripts.{LabelledText, SaysAs}
 
 -- an entry of a script, and the label of the line that gives it or of its put
@@ -28,22 +28,25 @@ items_among [] = []
 items_among (e ∷ entries) = item_with e.0 e.1 ++ items_among entries
 
 -- These first lines of a script with labels give these entries: one for each line outside module texts, with its label,
--- and one for each put, with the label of the put's line. A label has the number of its line. The next line has this
--- number, outside module texts or after this much of one.
+-- and one for each put, with the label of the put's line. A label has the number and the bytes of its line. The next
+-- line has this number, outside module texts or after this much of one.
 pub data SpellsLabelledEntries (o : LabelOptions)
     : List (List ℕ) → ℕ → Option LabelledText → List LabelledEntry → Type 0 where
   no_line : SpellsLabelledEntries o [] 1 None []
   skips : (ls : List (List ℕ)) (n : ℕ) (entries : List LabelledEntry) (l : List ℕ) (label : LineLabel)
-      → SpellsLabelledEntries o ls n None entries → SaysAs o (bare l) label line.Skipped → label.line ≡ n
+      → SpellsLabelledEntries o ls n None entries → SaysAs o (bare l) label line.Skipped → IsLabelAt o n l label
       → SpellsLabelledEntries o (ls ++ l ∷ []) (n + 1) None (entries ++ (label, entry.Skipped) ∷ [])
   makes : (ls : List (List ℕ)) (n : ℕ) (entries : List LabelledEntry) (l : List ℕ) (label : LineLabel) (f : Format)
-      (s : Step) → SpellsLabelledEntries o ls n None entries → SaysAs o (bare l) label (line.Step f s) → label.line ≡ n
+      (s : Step) → SpellsLabelledEntries o ls n None entries → SaysAs o (bare l) label (line.Step f s) → IsLabelAt o n l label
       → SpellsLabelledEntries o (ls ++ l ∷ []) (n + 1) None (entries ++ (label, entry.Item (item.Step f s)) ∷ [])
+  sweeps : (ls : List (List ℕ)) (n : ℕ) (entries : List LabelledEntry) (l : List ℕ) (label : LineLabel) (f : Format)
+      → SpellsLabelledEntries o ls n None entries → SaysAs o (bare l) label (line.Sweep f) → IsLabelAt o n l label
+      → SpellsLabelledEntries o (ls ++ l ∷ []) (n + 1) None (entries ++ (label, entry.Item (item.Sweep f)) ∷ [])
   is_bad : (ls : List (List ℕ)) (n : ℕ) (entries : List LabelledEntry) (l : List ℕ) (label : LineLabel)
-      → SpellsLabelledEntries o ls n None entries → SaysAs o (bare l) label line.Bad → label.line ≡ n
+      → SpellsLabelledEntries o ls n None entries → SaysAs o (bare l) label line.Bad → IsLabelAt o n l label
       → SpellsLabelledEntries o (ls ++ l ∷ []) (n + 1) None (entries ++ (label, entry.Item (item.BadLine n)) ∷ [])
   begins : (ls : List (List ℕ)) (n : ℕ) (entries : List LabelledEntry) (l : List ℕ) (label : LineLabel) (f : Format)
-      → SpellsLabelledEntries o ls n None entries → SaysAs o (bare l) label (line.Put f) → label.line ≡ n
+      → SpellsLabelledEntries o ls n None entries → SaysAs o (bare l) label (line.Put f) → IsLabelAt o n l label
       → SpellsLabelledEntries o (ls ++ l ∷ []) (n + 1) (Some (record { text = empty_text f; label = label })) entries
   goes_on : (ls : List (List ℕ)) (n : ℕ) (entries : List LabelledEntry) (l : List ℕ) (t : LabelledText)
       → SpellsLabelledEntries o ls n (Some t) entries → bare l ≢ text_end
@@ -55,7 +58,7 @@ pub data SpellsLabelledEntries (o : LabelOptions)
       (entries ++ (t.label, entry.Item (item.Step t.text.format (Put (take 1_048_577 t.text.bytes)))) ∷ [])
   puts_object : (ls : List (List ℕ)) (n : ℕ) (entries : List LabelledEntry) (l : List ℕ) (label : LineLabel)
       (f : Format) (text : List ℕ) → SpellsLabelledEntries o ls n None entries → IsPutObject o (bare l) label f text
-      → label.line ≡ n
+      → IsLabelAt o n l label
       → SpellsLabelledEntries o (ls ++ l ∷ []) (n + 1) None
       (entries ++ (label, entry.Item (item.Step f (Put (take 1_048_577 text)))) ∷ [])
 

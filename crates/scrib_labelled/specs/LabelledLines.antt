@@ -6,6 +6,7 @@ use Rattle.scrib_core.specs.declared.format.Format.{Format}
 use Rattle.scrib_script_reader.specs.declared.line.Line.TheVariants as line
 use Rattle.scrib_script_reader.specs.Fields.{fields}
 use Rattle.scrib_script_reader.specs.Says.{Says}
+use Rattle.scrib_script_reader.specs.Scripts.{bare}
 use Rattle.scrib_labels.specs.SessionLines.{id_field}
 use Rattle.scrib_labels.specs.SessionNames.{is_session_name}
 use Rattle.scrib_labels.specs.Tags.{HasTag}
@@ -13,9 +14,11 @@ use Rattle.scrib_objects.specs.declared.object_options.ObjectOptions.{ObjectOpti
 use Rattle.scrib_objects.specs.Objects.{IsObjectLine, Spelled, Spelling, as_bad, as_line, as_put}
 use Rattle.scrib_labelled.specs.declared.label_options.LabelOptions.{LabelOptions}
 
--- the label of a line: its number, its tag, and the name of its conversation with the number that stands for the name
+-- the label of a line: its number, what is read of its bytes, its tag, and the name of its conversation with the number
+-- that stands for the name
 pub record LineLabel : Type 0 where
   pub line : ℕ
+  pub text : List ℕ
   pub tag : Option (List ℕ)
   pub session : Option (List ℕ × ℕ)
 
@@ -87,6 +90,14 @@ IsLineOf true o whole label plain =
 -- the most bytes of a line: 8 MiB of an object, else 131,072
 abbrev pub line_limit : LabelOptions → ℕ
 line_limit o = if o.objects then 8388608 else 131072
+
+-- what is read of a line, without its end: all of it, or a part that is as much too long as the line is
+abbrev pub IsCutOf : LabelOptions → (cut l : List ℕ) → Type 0
+IsCutOf o cut l = (cut ≡ bare l) ⊎ ((line_limit o < length cut) × (line_limit o < length (bare l)))
+
+-- the label has the number of the line, and what is read of the line
+abbrev pub IsLabelAt : LabelOptions → (n : ℕ) → (l : List ℕ) → LineLabel → Type 0
+IsLabelAt o n l label = (label.line ≡ n) × IsCutOf o label.text l
 
 -- The line has this label, and stands for this line of a script without labels. Both are without their ends. A longer
 -- line than the limit is bad, and its tag and its name are not read.

@@ -5,6 +5,7 @@ use Rattle.std.specs.Str.{bytes_eq}
 use Rattle.scrib_core.specs.declared.format.Format.{Format}
 use Rattle.scrib_core.specs.declared.reply.Reply.{Reply}
 use Rattle.scrib_core.specs.declared.reply.Reply.TheVariants as reply
+use Rattle.scrib_core.specs.declared.reply.Refusal.TheVariants.{OutOfMemory}
 use Rattle.scrib_core.specs.declared.step.Step.{Step}
 use Rattle.scrib_core.specs.declared.step.Step.TheVariants.{Close}
 use Rattle.scrib_core.specs.Answers.{State, initial, IsAnswered}
@@ -12,7 +13,8 @@ use Rattle.scrib_script_reader.specs.declared.item.Item.{Item}
 use Rattle.scrib_script_reader.specs.declared.item.Item.TheVariants as item
 use Rattle.scrib_script_reader.specs.Scripts.{lines}
 use Rattle.scrib_report.specs.ReplyTexts.{reply_format}
-use Rattle.scrib_report.specs.LabelledReplies.{labelled_bad_line, labelled_end, labelled_reply}
+use Rattle.scrib_report.specs.LabelledReplies.{labelled_bad_line, labelled_end, labelled_reply, labelled_swept}
+use Rattle.scrib_sweep.specs.Sweeps.{IsSwept}
 use Rattle.scrib_closing.specs.ClosingScripts.{Completes}
 use Rattle.scrib_labelled.specs.declared.label_options.LabelledStyle.{LabelledStyle}
 use Rattle.scrib_labelled.specs.LabelledLines.{LineLabel}
@@ -39,12 +41,20 @@ abbrev pub labelled_replies : Format → (tag name : Option (List ℕ)) → List
 labelled_replies o tag name [] = []
 labelled_replies o tag name (r ∷ rs) = labelled_reply o tag name r ++ labelled_replies o tag name rs
 
+-- what is written for a sweep with this tag: how many conversations it judged, or the refusal of a turn
+abbrev pub labelled_sweep : Format → (tag : Option (List ℕ)) → Option ℕ → List ℕ
+labelled_sweep o tag (Some judged) = labelled_swept o tag judged
+labelled_sweep o tag None = labelled_reply o tag None (reply.Refused OutOfMemory)
+
 -- The item is carried out: from a state to another, with these replies and this output. Each reply to the line has the
--- tag and the name, and the format that the line asks for.
+-- tag and the name, and the format that the line asks for. A sweep stands for its turns, and has a reply of its own.
 abbrev pub Takes : LabelledStyle → (tag name : Option (List ℕ)) → State → Item → State → List Reply → List ℕ → Type 0
 Takes o tag name w (item.Step f s) v replies out =
     (r : Reply) × (u : State) × (later : List Reply) × IsAnswered w s r u × ClosesBehind o.closes s r u v later
     × (replies ≡ r ∷ later) × (out ≡ labelled_replies (reply_format o.format f) tag name replies)
+Takes o tag name w (item.Sweep f) v replies out =
+    (judged : Option ℕ) × IsSwept w judged v × (replies ≡ [])
+    × (out ≡ labelled_sweep (reply_format o.format f) tag judged)
 Takes o tag name w (item.BadLine n) v replies out =
     (replies ≡ []) × (v ≡ w) × (out ≡ labelled_bad_line o.format tag n)
 Takes o tag name w item.EndOfText v replies out = (replies ≡ []) × (v ≡ w) × (out ≡ labelled_end o.format tag)

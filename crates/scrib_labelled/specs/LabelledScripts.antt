@@ -10,7 +10,7 @@ use Rattle.scrib_script_reader.specs.declared.line.Line.TheVariants as line
 use Rattle.scrib_script_reader.specs.Says.{Says}
 use Rattle.scrib_script_reader.specs.Scripts.{Text, bare, empty_text, text_end, with_line}
 use Rattle.scrib_labelled.specs.declared.label_options.LabelOptions.{LabelOptions}
-use Rattle.scrib_labelled.specs.LabelledLines.{IsPutObject, LineLabel, StandsFor}
+use Rattle.scrib_labelled.specs.LabelledLines.{IsLabelAt, IsPutObject, LineLabel, StandsFor}
 
 -- the line has this label, and the line that it stands for has this meaning; both are without their ends
 abbrev pub SaysAs : LabelOptions → (whole : List ℕ) → LineLabel → Line → Type 0
@@ -22,22 +22,25 @@ pub record LabelledText : Type 0 where
   pub label : LineLabel
 
 -- These first lines of a script with labels spell these items, each with the label of its line or of its put, which has
--- the number of that line. The next line has this number, outside module texts or after this much of one. Lines of module
+-- the number and the bytes of that line. The next line has this number, outside module texts or after this much of one. Lines of module
 -- texts have no label.
 pub data SpellsLabelled (o : LabelOptions)
     : List (List ℕ) → ℕ → Option LabelledText → List (LineLabel × Item) → Type 0 where
   no_line : SpellsLabelled o [] 1 None []
   skips : (ls : List (List ℕ)) (n : ℕ) (items : List (LineLabel × Item)) (l : List ℕ) (label : LineLabel)
-      → SpellsLabelled o ls n None items → SaysAs o (bare l) label line.Skipped → label.line ≡ n
+      → SpellsLabelled o ls n None items → SaysAs o (bare l) label line.Skipped → IsLabelAt o n l label
       → SpellsLabelled o (ls ++ l ∷ []) (n + 1) None items
   makes : (ls : List (List ℕ)) (n : ℕ) (items : List (LineLabel × Item)) (l : List ℕ) (label : LineLabel) (f : Format)
-      (s : Step) → SpellsLabelled o ls n None items → SaysAs o (bare l) label (line.Step f s) → label.line ≡ n
+      (s : Step) → SpellsLabelled o ls n None items → SaysAs o (bare l) label (line.Step f s) → IsLabelAt o n l label
       → SpellsLabelled o (ls ++ l ∷ []) (n + 1) None (items ++ (label, item.Step f s) ∷ [])
+  sweeps : (ls : List (List ℕ)) (n : ℕ) (items : List (LineLabel × Item)) (l : List ℕ) (label : LineLabel) (f : Format)
+      → SpellsLabelled o ls n None items → SaysAs o (bare l) label (line.Sweep f) → IsLabelAt o n l label
+      → SpellsLabelled o (ls ++ l ∷ []) (n + 1) None (items ++ (label, item.Sweep f) ∷ [])
   is_bad : (ls : List (List ℕ)) (n : ℕ) (items : List (LineLabel × Item)) (l : List ℕ) (label : LineLabel)
-      → SpellsLabelled o ls n None items → SaysAs o (bare l) label line.Bad → label.line ≡ n
+      → SpellsLabelled o ls n None items → SaysAs o (bare l) label line.Bad → IsLabelAt o n l label
       → SpellsLabelled o (ls ++ l ∷ []) (n + 1) None (items ++ (label, item.BadLine n) ∷ [])
   begins : (ls : List (List ℕ)) (n : ℕ) (items : List (LineLabel × Item)) (l : List ℕ) (label : LineLabel) (f : Format)
-      → SpellsLabelled o ls n None items → SaysAs o (bare l) label (line.Put f) → label.line ≡ n
+      → SpellsLabelled o ls n None items → SaysAs o (bare l) label (line.Put f) → IsLabelAt o n l label
       → SpellsLabelled o (ls ++ l ∷ []) (n + 1) (Some (record { text = empty_text f; label = label })) items
   goes_on : (ls : List (List ℕ)) (n : ℕ) (items : List (LineLabel × Item)) (l : List ℕ) (t : LabelledText)
       → SpellsLabelled o ls n (Some t) items → bare l ≢ text_end
@@ -48,7 +51,7 @@ pub data SpellsLabelled (o : LabelOptions)
       (items ++ (t.label, item.Step t.text.format (Put (take 1_048_577 t.text.bytes))) ∷ [])
   puts_object : (ls : List (List ℕ)) (n : ℕ) (items : List (LineLabel × Item)) (l : List ℕ) (label : LineLabel)
       (f : Format) (text : List ℕ) → SpellsLabelled o ls n None items → IsPutObject o (bare l) label f text
-      → label.line ≡ n
+      → IsLabelAt o n l label
       → SpellsLabelled o (ls ++ l ∷ []) (n + 1) None (items ++ (label, item.Step f (Put (take 1_048_577 text))) ∷ [])
 
 -- the items of a whole script: where it ends inside a module text, the last is that end

@@ -11,7 +11,7 @@ use Rattle.scrib_labelled.specs.declared.label_options.LabelOptions.{LabelOption
 use Rattle.scrib_labelled.specs.declared.labelled_run.LabelledRun.{LabelledRun}
 use Rattle.scrib_labelled.specs.declared.put_text.PutText.{PutText}
 use Rattle.scrib_labelled.specs.LabelledEntries.{LabelledEntry, SpellsLabelledEntries, all_entries}
-use Rattle.scrib_labelled.specs.LabelledLines.{IsNumbered, LineLabel, line_limit}
+use Rattle.scrib_labelled.specs.LabelledLines.{IsCutOf, IsNumbered, LineLabel}
 use Rattle.scrib_labelled.specs.LabelledScripts.{LabelledText, SaysAs}
 use Rattle.scrib_labelled.specs.Readings.{HoldsUnended, IsPartOfLines, kept_len}
 use Rattle.scrib_labelled.specs.Stages.{FailsEntry, OutputRelation, StageRelation, TakesEntry}
@@ -35,21 +35,17 @@ of_body o text kept body P =
     (before : Option LabelledText) (part : List ℕ) → HoldsUnended text before
     → kept ≡ take (kept_len o before) part → P before ((part ++ body) ++ 10 ∷ [])
 
--- what is read of a line, without its end: all of it, or a part that is as much too long as the line is
-abbrev pub IsCutOf : LabelOptions → (cut l : List ℕ) → Type 0
-IsCutOf o cut l = (cut ≡ bare l) ⊎ ((line_limit o < length cut) × (line_limit o < length (bare l)))
-
 -- the lines outside module texts of which this is read
 abbrev pub of_cut : LabelOptions → (cut : List ℕ) → OfLines → Type 0
 of_cut o cut P = (l : List ℕ) → IsCutOf o cut l → P None l
 
--- the label of the line of this number, which has this tag and names no conversation
-abbrev pub nameless : (n : ℕ) → (tag : Option (List ℕ)) → LineLabel
-nameless n tag = record { line = n; tag = tag; session = None }
+-- the label of the line of this number, of which this is read, which has this tag and names no conversation
+abbrev pub nameless : (n : ℕ) → (text : List ℕ) → (tag : Option (List ℕ)) → LineLabel
+nameless n text tag = record { line = n; text = text; tag = tag; session = None }
 
--- the lines outside module texts with this label and this meaning
+-- the lines outside module texts with this label and this meaning, of which the label has what is read
 abbrev pub of_meaning : LabelOptions → LineLabel → Line → OfLines → Type 0
-of_meaning o label meaning P = (l : List ℕ) → SaysAs o (bare l) label meaning → P None l
+of_meaning o label meaning P = (l : List ℕ) → SaysAs o (bare l) label meaning → IsCutOf o label.text l → P None l
 
 -- the line has the meaning of an object with this tag that is spelled as this line
 abbrev pub SaysObject : LabelOptions → (tag : Option (List ℕ)) → (spelled l : List ℕ) → Type 0
@@ -57,9 +53,9 @@ SaysObject o tag spelled l =
     (label : LineLabel) (plain : List ℕ) (meaning : Line) → label.tag ≡ tag
     → IsNumbered o.names spelled label.session plain → Says plain meaning → SaysAs o (bare l) label meaning
 
--- the lines that are objects with this tag, and are spelled as this line
-abbrev pub of_object : LabelOptions → (tag : Option (List ℕ)) → (spelled : List ℕ) → OfLines → Type 0
-of_object o tag spelled P = (l : List ℕ) → SaysObject o tag spelled l → P None l
+-- the lines that are objects with this tag, and are spelled as this line, of which this is read
+abbrev pub of_object : LabelOptions → (text : List ℕ) → (tag : Option (List ℕ)) → (spelled : List ℕ) → OfLines → Type 0
+of_object o text tag spelled P = (l : List ℕ) → SaysObject o tag spelled l → IsCutOf o text l → P None l
 
 -- the lines of this module text that have ended, of which this much is kept
 abbrev pub of_text_line : PutText → (kept : List ℕ) → OfLines → Type 0
@@ -138,6 +134,7 @@ pub record EndsBody {S : Type 0} (Took : StageRelation S) (gathered : S → List
 -- the label of the put of this text
 pub record IsPutLabel (text : PutText) (label : LineLabel) : Type 0 where
   pub line : label.line ≡ text.line
+  pub head : label.text ≡ text.head.items
   pub tag : label.tag ≡ tag_in text
   pub session : label.session ≡ None
 
@@ -166,6 +163,7 @@ abbrev pub HasLabel : Option PutText → Option LabelledText → Type 0
 HasLabel None None = Unit {0}
 HasLabel (Some kept) (Some t) =
     (tag_in kept ≡ t.label.tag) × (t.label.session ≡ None) × (kept.line ≡ t.label.line)
+    × (kept.head.items ≡ t.label.text)
 HasLabel _ _ = ⊥
 
 -- what the last bytes of a script change, which no LF ended: there may be none

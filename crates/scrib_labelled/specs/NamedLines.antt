@@ -29,7 +29,8 @@ session_of session = option_map (λ s. (s.name.now, s.number)) session
 
 -- the label of the parts of a line
 abbrev pub label_of : LineParts → LineLabel
-label_of parts = record { line = parts.line; tag = bytes_of parts.tag; session = session_of parts.session }
+label_of parts =
+    record { line = parts.line; text = parts.text.now; tag = bytes_of parts.tag; session = session_of parts.session }
 
 -- where a line names its conversation, this is a name of a conversation, and the number is one for the name
 abbrev pub IsNumbersOf : SessionNames → Option (List ℕ × ℕ) → Type 0

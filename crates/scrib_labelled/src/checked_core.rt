@@ -4,8 +4,9 @@ use scrib_core::conversation_steps::Noted;
 use scrib_core::monitor::Core;
 use scrib_core::reply::{Refusal, Reply};
 use scrib_core::step::Step;
+use scrib_sweep::sweep::sweep;
 use scrib_types::shared_event::SharedEvent;
-use std::alloc::Global;
+use std::alloc::{AllocError, Global};
 
 /// A monitor, and whether a step was refused memory. A run whose replies are not written has to know.
 #[derive(Drop)]
@@ -19,6 +20,8 @@ impl CheckedCore {
     ghost use Rattle.scrib_core.specs.Answers.{IsAnswered, initial};
     ghost use Rattle.scrib_core.specs.ReplyValues.{note_reply_of};
     ghost use Rattle.scrib_core.specs.declared.step.Step.TheVariants.{Note};
+    ghost use Rattle.std.specs.Result.{result_ok};
+    ghost use Rattle.scrib_sweep.specs.Sweeps.{IsSwept};
     ghost use Rattle.scrib_labelled.specs.CheckedCores.{GotMemory, state_of};
 
     /// Returns a new monitor.
@@ -41,6 +44,21 @@ impl CheckedCore {
             self.lacked = true;
         }
         reply
+    }
+
+    /// Sweeps the stale conversations, as `sweep` of `scrib_sweep` does.
+    ///
+    /// # Errors
+    /// `AllocError` where memory was refused.
+    pub(crate) fn sweep(&mut self, alloc: Global) -> Result<usize, AllocError>
+        ensures swept { IsSwept (state_of self.old) (result_ok result) (state_of self.new) }
+        ensures memory { GotMemory self.old self.new [] }
+    {
+        let swept = sweep(alloc, &mut self.core);
+        if swept.is_err() {
+            self.lacked = true;
+        }
+        swept
     }
 
     /// Notes an event, as [`Core::note_event`] does.

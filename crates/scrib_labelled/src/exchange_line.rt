@@ -1,4 +1,4 @@
-//! Reads most lines of a long script: exchanges that are spelled with single blanks.
+//! Reads most lines of a long script: exchanges, and joins by number, that are spelled with single blanks.
 
 ghost use Rattle.std.specs.Prelude.{◌≡◌, Some, true, false, IfSome};
 ghost use Rattle.scrib_labels.specs.Naming.{number_of};
@@ -15,11 +15,13 @@ use scrib_script_reader::line::MAX_LINE_BYTES;
 use scrib_script_reader::reader::Reader;
 use scrib_types::shared_event::SharedEvent;
 
-/// The line of an exchange, with its label.
+/// The line of an exchange or of a join, with its label.
 #[derive(Drop)]
 pub struct ExchangeLine<'a> {
     /// The number of the line, from 1.
     pub line: u64,
+    /// The line, without its end.
+    pub text: &'a [u8],
     /// The tag, if the line has one.
     pub tag: Option<&'a [u8]>,
     /// What a reply begins with for the tag.
@@ -40,7 +42,7 @@ struct LineHead<'a> {
     rest: &'a [u8],
 }
 
-/// The conversation and the event of an exchange.
+/// The conversation and the event of an exchange or of a join.
 #[derive(Drop)]
 pub(crate) struct Exchange<'a> {
     pub(crate) name: Option<&'a [u8]>,
@@ -49,7 +51,8 @@ pub(crate) struct Exchange<'a> {
 }
 
 /// Returns the exchange of a line, given without its end, that is spelled with single blanks, and whose conversation is a
-/// number or has a name with a number. None of other lines, some of which are exchanges, and where memory is refused.
+/// number or has a name with a number; also a join whose conversation is a number. None of other lines, some of which are
+/// exchanges or joins, and where memory is refused.
 #[inline(always)]
 pub(crate) fn exchange_line<'a>(
     reader: &mut Reader,
@@ -60,6 +63,7 @@ pub(crate) fn exchange_line<'a>(
     requires { options.objects ≡ false }
     ensures exchange { IfSome result (IsExchangeLine options names.now line.entry.bytes.now) }
     ensures line { IfSome result (λ e. e.line ≡ line.entry.number) }
+    ensures text { IfSome result (λ e. e.text.now ≡ line.entry.bytes.now) }
 {
     if line.bytes.len() > MAX_LINE_BYTES {
         return None;
@@ -68,6 +72,7 @@ pub(crate) fn exchange_line<'a>(
     let exchange = exchange_in(reader, names, options.names, head.rest)?;
     Some(ExchangeLine {
         line: line.number,
+        text: line.bytes,
         tag: head.tag,
         tag_text: head.tag_text,
         name: exchange.name,
@@ -97,7 +102,7 @@ fn line_head(tags: bool, line: &[u8]) -> Option<LineHead<'_>>
     })
 }
 
-/// The exchange of a line without its tag, where conversations may have names.
+/// The exchange of a line without its tag, where conversations may have names; or the join, where they have none.
 #[inline(always)]
 pub(crate) fn exchange_in<'a>(
     reader: &mut Reader,
@@ -110,7 +115,7 @@ pub(crate) fn exchange_in<'a>(
     if named {
         return named_exchange(reader, names, rest);
     }
-    let Ok(Some((id, event))) = reader.exchange(rest) else {
+    let Ok(Some((id, event))) = reader.note(rest) else {
         return None;
     };
     Some(Exchange {

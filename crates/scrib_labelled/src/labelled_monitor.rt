@@ -12,7 +12,9 @@ use scrib_core::format::Format;
 use scrib_core::reply::{Refusal, Reply, close_reply, note_reply};
 use scrib_core::step::Step;
 use scrib_report::label::Label;
-use scrib_report::labelled::{push_labelled_bad_line, push_labelled_end, push_labelled_reply};
+use scrib_report::labelled::{
+    push_labelled_bad_line, push_labelled_end, push_labelled_reply, push_labelled_swept,
+};
 use scrib_report::printing::reply_format;
 use scrib_report::reply_head::ReplyHead;
 use scrib_script_reader::item::Item;
@@ -43,7 +45,7 @@ pub struct LabelledMonitor {
 }
 
 impl LabelledMonitor {
-    ghost use Rattle.std.specs.Prelude.{◌≡◌, ◌≢◌, ◌++◌, ◌&&◌, ℕ, List, None, Some, true, false, not, IfOk, IsFalse, IsTrue, MatchOption, OnErr, OnOk};
+    ghost use Rattle.std.specs.Prelude.{◌≡◌, ◌≢◌, ◌++◌, ◌&&◌, ℕ, List, [], None, Option, Some, true, false, not, IfOk, IsFalse, IsTrue, MatchOption, OnErr, OnOk};
     ghost use Rattle.scrib_core.specs.Answers.{IsAnswered, IsCompleteIn, initial};
     ghost use Rattle.scrib_core.specs.World.{conversation};
     ghost use Rattle.scrib_labelled.specs.CheckedCores.{GotMemory, state_of};
@@ -53,10 +55,12 @@ impl LabelledMonitor {
     ghost use Rattle.scrib_core.specs.declared.step.Step.TheVariants.{Close};
     ghost use Rattle.scrib_report.specs.LabelledReplies.{labelled_reply};
     ghost use Rattle.scrib_report.specs.PutBack as spec;
-    ghost use Rattle.scrib_report.specs.PutBack.{name_of, tag_of};
+    ghost use Rattle.scrib_report.specs.PutBack.{bytes_of, name_of, tag_of};
+    ghost use Rattle.scrib_report.specs.ReplyTexts.{reply_format};
+    ghost use Rattle.scrib_sweep.specs.Sweeps.{IsSwept};
     ghost use Rattle.scrib_script_reader.specs.declared.item.Item.TheVariants as item;
     ghost use Rattle.scrib_closing.specs.ClosingScripts.{is_send};
-    ghost use Rattle.scrib_labelled.specs.LabelledRuns.{Takes};
+    ghost use Rattle.scrib_labelled.specs.LabelledRuns.{Takes, labelled_sweep};
     ghost use Rattle.scrib_labelled.specs.Changes.{IsChangeBy, NotesEvent, TakesItem, change_by};
     ghost use Rattle.scrib_labelled.specs.declared.labelled_monitor.Change.TheVariants as change;
 
@@ -86,6 +90,7 @@ impl LabelledMonitor {
         self.text.clear();
         match item {
             Item::Step(asked, step) => self.push_step(asked, step, label),
+            Item::Sweep(asked) => self.push_sweep(asked, label.tag),
             Item::BadLine(number) => {
                 push_labelled_bad_line(&mut self.text, number, self.style.format, label.tag)?;
                 Ok(Change::Unchanged)
@@ -128,6 +133,25 @@ impl LabelledMonitor {
             Some(id) => self.push_close(id, format, label),
             None => Ok(change_by(&reply)),
         }
+    }
+
+    // Sweeps the stale conversations, and appends the reply with this tag. The line asks for the format `asked`.
+    fn push_sweep(&mut self, asked: Format, tag: Option<&[u8]>) -> Result<Change, AllocError>
+        ensures ok { IfOk result (λ c. (c ≡ change.Unchanged) × (judged : Option ℕ)
+            × IsSwept (state_of self.old.core) judged (state_of self.new.core)
+            × GotMemory self.old.core self.new.core [] × (self.new.text.items
+            ≡ self.old.text.items ++ labelled_sweep (reply_format self.old.style.format asked) (bytes_of tag.entry) judged)) }
+        ensures same { self.new ≡ record self.old { core = self.new.core; text = self.new.text } }
+    {
+        let format = reply_format(self.style.format, asked);
+        match self.core.sweep(*self.text.allocator()) {
+            Ok(judged) => push_labelled_swept(&mut self.text, judged as u64, format, tag)?,
+            Err(_) => {
+                let refused = Reply::Refused(Refusal::OutOfMemory);
+                push_labelled_reply(&mut self.text, &refused, format, Label { tag, name: None })?;
+            }
+        }
+        Ok(Change::Unchanged)
     }
 
     // Returns the conversation in which an accepted step noted an event or made a turn, if it is complete and complete

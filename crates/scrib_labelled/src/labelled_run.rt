@@ -176,6 +176,7 @@ impl<S: EntryStage> LabelledRun<S> {
     {
         let PutText {
             line,
+            head,
             bytes,
             format,
             tag,
@@ -185,6 +186,7 @@ impl<S: EntryStage> LabelledRun<S> {
         };
         let parts = LineParts {
             line,
+            text: head.as_slice(),
             tag: tag_of(&tag),
             session: None,
         };
@@ -274,12 +276,19 @@ impl<S: EntryStage> LabelledRun<S> {
         match meaning {
             Line::Skipped => self.stage.take(Entry::Skipped, parts),
             Line::Put(format) => {
-                self.text = Some(PutText::new(self.alloc, parts.line, format, parts.tag)?);
+                let LineParts {
+                    line,
+                    text,
+                    tag,
+                    ..
+                } = parts;
+                self.text = Some(PutText::new(self.alloc, line, text, format, tag)?);
                 Ok(())
             }
             Line::Step(format, step) => self
                 .stage
                 .take(Entry::Item(Item::Step(format, step)), parts),
+            Line::Sweep(format) => self.stage.take(Entry::Item(Item::Sweep(format)), parts),
             Line::Bad => self
                 .stage
                 .take(Entry::Item(Item::BadLine(self.count.number())), parts),
@@ -327,6 +336,7 @@ impl<S: EntryStage> LabelledRun<S> {
         };
         let parts = LineParts {
             line: text.line,
+            text: text.head.as_slice(),
             tag: tag_of(&text.tag),
             session: None,
         };

@@ -14,6 +14,8 @@ pub struct Session<'a> {
 pub struct LineParts<'a> {
     /// The number of the line, from 1.
     pub line: u64,
+    /// The line, without its end. Of a line past the limit as much as is kept.
+    pub text: &'a [u8],
     /// The tag, if the line has one.
     pub tag: Option<&'a [u8]>,
     /// The conversation, if the line names one.

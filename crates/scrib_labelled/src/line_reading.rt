@@ -28,11 +28,13 @@ pub(crate) fn read_line<'a>(
     requires { options.objects ≡ false }
     ensures reads { IfOk result (λ r. ReadsAs options names.now line.entry.bytes.now r.0 r.1) }
     ensures line { IfOk result (λ r. r.0.line ≡ line.entry.number) }
+    ensures text { IfOk result (λ r. r.0.text.now ≡ line.entry.bytes.now) }
 {
     let ScriptLine { number, bytes } = line;
     if bytes.len() > MAX_LINE_BYTES {
         let parts = LineParts {
             line: number,
+            text: bytes,
             tag: None,
             session: None,
         };
@@ -42,6 +44,7 @@ pub(crate) fn read_line<'a>(
     let (session, meaning) = read_untagged(reader, plain, names, options.names, rest)?;
     let parts = LineParts {
         line: number,
+        text: bytes,
         tag,
         session,
     };

@@ -40,6 +40,7 @@ pub(crate) fn object_exchange<'a>(
     requires { options.objects ≡ true }
     ensures exchange { IfSome result (IsExchangeLine options names.now line.entry.bytes.now) }
     ensures line { IfSome result (λ e. e.line ≡ line.entry.number) }
+    ensures text { IfSome result (λ e. e.text.now ≡ line.entry.bytes.now) }
 {
     if line.bytes.len() > MAX_OBJECT_BYTES {
         return None;
@@ -55,6 +56,7 @@ pub(crate) fn object_exchange<'a>(
     let exchange = exchange_in(reader, names, options.names, plain.as_slice())?;
     Some(ExchangeLine {
         line: line.number,
+        text: line.bytes,
         tag: object.tag,
         tag_text: tag_text.as_slice(),
         name: exchange.name,

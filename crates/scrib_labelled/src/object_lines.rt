@@ -67,33 +67,42 @@ impl<S: EntryStage> LabelledRun<S> {
             (of_cut self.old.options line.now)) }
     {
         let Some(object) = read_object(&mut self.objects, self.options, line)? else {
-            return self.end_bad_object(None);
+            return self.end_bad_object(None, line);
         };
         let ObjectLine { tag, body } = object;
         match body {
-            ObjectBody::Line(bytes) => self.end_object_line(tag_of(&tag), bytes.as_slice()),
+            ObjectBody::Line(bytes) => {
+                self.end_object_line(tag_of(&tag), bytes.as_slice(), line)
+            }
             ObjectBody::Put { format, text } => {
                 let mut bytes = text;
                 bytes.truncate(KEPT_TEXT_BYTES);
+                let head = Vec::from_slice(self.alloc, line)?;
                 let number = self.count.number();
                 self.put(PutText {
                     line: number,
+                    head,
                     bytes,
                     format,
                     tag,
                 })
             }
-            ObjectBody::Bad => self.end_bad_object(tag_of(&tag)),
+            ObjectBody::Bad => self.end_bad_object(tag_of(&tag), line),
         }
     }
 
-    // Takes the line that an object with this tag stands for.
-    fn end_object_line(&mut self, tag: Option<&[u8]>, line: &[u8]) -> Result<(), AllocError>
+    // Takes the line that an object with this tag stands for. `text` is the object.
+    fn end_object_line(
+        &mut self,
+        tag: Option<&[u8]>,
+        line: &[u8],
+        text: &[u8],
+    ) -> Result<(), AllocError>
         requires { self.old.text ≡ None }
         ensures ok { OnOk result (EndsLine S.Took S.gathered self.old self.new
-            (of_object self.old.options (bytes_of tag.entry) line.now)) }
+            (of_object self.old.options text.now (bytes_of tag.entry) line.now)) }
         ensures err { OnErr result (FailsLine S.Took S.TookPart S.gathered self.old self.new
-            (of_object self.old.options (bytes_of tag.entry) line.now)) }
+            (of_object self.old.options text.now (bytes_of tag.entry) line.now)) }
     {
         let (session, meaning) = read_untagged(
             &mut self.reader,
@@ -104,22 +113,28 @@ impl<S: EntryStage> LabelledRun<S> {
         )?;
         let parts = LineParts {
             line: self.count.number(),
+            text,
             tag,
             session,
         };
         self.end_meaning(parts, meaning)
     }
 
-    // Takes a bad object with this tag.
-    fn end_bad_object(&mut self, tag: Option<&[u8]>) -> Result<(), AllocError>
+    // Takes a bad object with this tag. `text` is the object.
+    fn end_bad_object<'a>(
+        &mut self,
+        tag: Option<&'a [u8]>,
+        text: &'a [u8],
+    ) -> Result<(), AllocError>
         requires { self.old.text ≡ None }
         ensures ok { OnOk result (EndsLine S.Took S.gathered self.old self.new
-            (of_meaning self.old.options (nameless (self.old.count.lines + 1) (bytes_of tag.entry)) line.Bad)) }
+            (of_meaning self.old.options (nameless (self.old.count.lines + 1) text.now (bytes_of tag.entry)) line.Bad)) }
         ensures err { OnErr result (FailsLine S.Took S.TookPart S.gathered self.old self.new
-            (of_meaning self.old.options (nameless (self.old.count.lines + 1) (bytes_of tag.entry)) line.Bad)) }
+            (of_meaning self.old.options (nameless (self.old.count.lines + 1) text.now (bytes_of tag.entry)) line.Bad)) }
     {
         let parts = LineParts {
             line: self.count.number(),
+            text,
             tag,
             session: None,
         };

@@ -8,10 +8,13 @@ use scrib_core::format::Format;
 use scrib_script_reader::kept_bytes::{KEPT_TEXT_BYTES, append_up_to};
 use std::alloc::{AllocError, Global};
 
-/// A module text so far, as far as it is kept, with the number, the format and the tag of its put's line.
+/// A module text so far, as far as it is kept, with its put's line, and the number, the format
+/// and the tag of that.
 #[derive(Drop)]
 pub(crate) struct PutText {
     pub(crate) line: u64,
+    /// The line of the put, without its end.
+    pub(crate) head: Vec<u8>,
     pub(crate) bytes: Vec<u8>,
     pub(crate) format: Format,
     pub(crate) tag: Option<Vec<u8>>,
@@ -21,10 +24,11 @@ impl PutText {
     /// Returns the text before its first line.
     ///
     /// # Errors
-    /// `AllocError` where memory for the tag is refused.
+    /// `AllocError` where memory for the put's line or its tag is refused.
     pub(crate) fn new(
         alloc: Global,
         line: u64,
+        head: &[u8],
         format: Format,
         tag: Option<&[u8]>,
     ) -> Result<PutText, AllocError>
@@ -32,13 +36,16 @@ impl PutText {
         ensures format { IfOk result (λ t. t.format ≡ format) }
         ensures tag { IfOk result (λ t. tag_in t ≡ bytes_of tag.entry) }
         ensures line { IfOk result (λ t. t.line ≡ line) }
+        ensures head { IfOk result (λ t. t.head.items ≡ head.now) }
     {
+        let head = Vec::from_slice(alloc, head)?;
         let tag = match tag {
             Some(tag) => Some(Vec::from_slice(alloc, tag)?),
             None => None,
         };
         Ok(PutText {
             line,
+            head,
             bytes: Vec::new(alloc),
             format,
             tag,

@@ -19,7 +19,7 @@ returns-clause-exchange c =
     let numbered = subst (λ (l : List ℕ). IsNumbered c.args.options.names l (named_id exchange.name exchange.id) is.plain) line is.numbered in
     record {
       plain = is.plain;
-      stands = stands_object c.args.options c.args.line.bytes.now (bytes_of object.tag) (exchange_line object) (record { line = c.args.line.number; tag = bytes_of object.tag; session = named_id exchange.name exchange.id }) is.plain c.requires short spelled refl numbered;
+      stands = stands_object c.args.options c.args.line.bytes.now (bytes_of object.tag) (exchange_line object) (record { line = c.args.line.number; text = c.args.line.bytes.now; tag = bytes_of object.tag; session = named_id exchange.name exchange.id }) is.plain c.requires short spelled refl numbered;
       says = is.says;
       numbers = is.numbers;
       tag_is = subst (λ (t : List ℕ). c.as_slice-2.result.now ≡ t) c.in-Ok.ensures.tag c.as_slice-2.ensures.value;

@@ -24,8 +24,8 @@ returns-in_default-clause-ok g c =
     let old = c.args.self.now in
     let read = subst (λ (x : Option ObjectLine). IsObjectRead old.options c.args.line.now (option_map shown x)) c.in_default.is c.in_ok-object.ensures in
     on_ok_weaker c.end_bad_object.result
-    (ends_of g.S.EntryStage.Took g.S.EntryStage.gathered old c.end_bad_object.new.self (of_meaning old.options (nameless (old.count.lines + 1) None) line.Bad) (of_cut old.options c.args.line.now)
-    (λ P h l is. h l (says_no_object old.options c.args.line.now (old.count.lines + 1) c.requires.objects read l is)))
+    (ends_of g.S.EntryStage.Took g.S.EntryStage.gathered old c.end_bad_object.new.self (of_meaning old.options (nameless (old.count.lines + 1) c.args.line.now None) line.Bad) (of_cut old.options c.args.line.now)
+    (λ P h l is. h l (says_no_object old.options c.args.line.now (old.count.lines + 1) c.requires.objects read l is) is))
     c.end_bad_object.ensures.ok
 
 pub returns-in_default-clause-err : goal.returns-in_default-clause-err
@@ -33,8 +33,8 @@ returns-in_default-clause-err g c =
     let old = c.args.self.now in
     let read = subst (λ (x : Option ObjectLine). IsObjectRead old.options c.args.line.now (option_map shown x)) c.in_default.is c.in_ok-object.ensures in
     on_err_weaker c.end_bad_object.result
-    (fails_of g.S.EntryStage.Took g.S.EntryStage.TookPart g.S.EntryStage.gathered old c.end_bad_object.new.self (of_meaning old.options (nameless (old.count.lines + 1) None) line.Bad) (of_cut old.options c.args.line.now)
-    (λ P h l is. h l (says_no_object old.options c.args.line.now (old.count.lines + 1) c.requires.objects read l is)))
+    (fails_of g.S.EntryStage.Took g.S.EntryStage.TookPart g.S.EntryStage.gathered old c.end_bad_object.new.self (of_meaning old.options (nameless (old.count.lines + 1) c.args.line.now None) line.Bad) (of_cut old.options c.args.line.now)
+    (λ P h l is. h l (says_no_object old.options c.args.line.now (old.count.lines + 1) c.requires.objects read l is) is))
     c.end_bad_object.ensures.err
 
 pub returns-in-Line-clause-ok : goal.returns-in-Line-clause-ok
@@ -44,8 +44,8 @@ returns-in-Line-clause-ok g c =
     let tagged = subst (λ (t : Option (List ℕ)). IsObjectRead old.options c.args.line.now (Some (record { tag = t; body = as_line c.in-Line.bytes.items }))) (sym c.tag_of.ensures) read in
     let spelled = subst (λ (t : List ℕ). IsObjectRead old.options c.args.line.now (Some (record { tag = bytes_of c.tag_of.result; body = as_line t }))) (sym c.as_slice.ensures.value) tagged in
     on_ok_weaker c.end_object_line.result
-    (ends_of g.S.EntryStage.Took g.S.EntryStage.gathered old c.end_object_line.new.self (of_object old.options (bytes_of c.tag_of.result) c.as_slice.result.now) (of_cut old.options c.args.line.now)
-    (λ P h l is. h l (says_object old.options c.args.line.now (bytes_of c.tag_of.result) c.as_slice.result.now c.requires.objects spelled l is)))
+    (ends_of g.S.EntryStage.Took g.S.EntryStage.gathered old c.end_object_line.new.self (of_object old.options c.args.line.now (bytes_of c.tag_of.result) c.as_slice.result.now) (of_cut old.options c.args.line.now)
+    (λ P h l is. h l (says_object old.options c.args.line.now (bytes_of c.tag_of.result) c.as_slice.result.now c.requires.objects spelled l is) is))
     c.end_object_line.ensures.ok
 
 pub returns-in-Line-clause-err : goal.returns-in-Line-clause-err
@@ -55,33 +55,39 @@ returns-in-Line-clause-err g c =
     let tagged = subst (λ (t : Option (List ℕ)). IsObjectRead old.options c.args.line.now (Some (record { tag = t; body = as_line c.in-Line.bytes.items }))) (sym c.tag_of.ensures) read in
     let spelled = subst (λ (t : List ℕ). IsObjectRead old.options c.args.line.now (Some (record { tag = bytes_of c.tag_of.result; body = as_line t }))) (sym c.as_slice.ensures.value) tagged in
     on_err_weaker c.end_object_line.result
-    (fails_of g.S.EntryStage.Took g.S.EntryStage.TookPart g.S.EntryStage.gathered old c.end_object_line.new.self (of_object old.options (bytes_of c.tag_of.result) c.as_slice.result.now) (of_cut old.options c.args.line.now)
-    (λ P h l is. h l (says_object old.options c.args.line.now (bytes_of c.tag_of.result) c.as_slice.result.now c.requires.objects spelled l is)))
+    (fails_of g.S.EntryStage.Took g.S.EntryStage.TookPart g.S.EntryStage.gathered old c.end_object_line.new.self (of_object old.options c.args.line.now (bytes_of c.tag_of.result) c.as_slice.result.now) (of_cut old.options c.args.line.now)
+    (λ P h l is. h l (says_object old.options c.args.line.now (bytes_of c.tag_of.result) c.as_slice.result.now c.requires.objects spelled l is) is))
     c.end_object_line.ensures.err
 
-pub returns-in-Put-clause-ok : goal.returns-in-Put-clause-ok
-returns-in-Put-clause-ok g c =
+pub returns-in_ok-head-in-Put-clause-ok : goal.returns-in_ok-head-in-Put-clause-ok
+returns-in_ok-head-in-Put-clause-ok g c =
     let old = c.args.self.now in
     let read = read_some old.options c.args.line.now c.in_ok-object.field-0 c.in-Some.object (body.Put c.in-Put.format c.in-Put.text) c.in-Some.is c.in-Put.is c.in_ok-object.ensures in
-    let text : PutText = record { line = c.number-number.result; bytes = c.truncate.new.self; format = c.in-Put.format; tag = c.in-Some.object.tag } in
+    let text : PutText = record { line = c.number-number.result; head = c.in_ok-head-in-Put.head; bytes = c.truncate.new.self; format = c.in-Put.format; tag = c.in-Some.object.tag } in
     on_ok_weaker c.put.result
     (λ h. ends_one g.S.EntryStage.Took g.S.EntryStage.gathered old c.put.new.self (of_cut old.options c.args.line.now) h.label (put_entry text.format text.bytes.items) (h.rest ∙ c.requires.text) h.same
     (λ P made l is. made None l
-    (gives_put_object old.options (old.count.lines + 1) l c.in-Put.text.items text h.label h.labelled c.number-number.ensures c.truncate.ensures.items
+    (gives_put_object old.options (old.count.lines + 1) l c.args.line.now c.in-Put.text.items text h.label h.labelled c.number-number.ensures c.in_ok-head-in-Put.ensures.items is c.truncate.ensures.items
     (says_put_object old.options c.args.line.now (old.count.lines + 1) (option_map (λ t. t.items) c.in-Some.object.tag) c.in-Put.format c.in-Put.text.items c.requires.objects read l is))) h.takes)
     c.put.ensures.ok
 
-pub returns-in-Put-clause-err : goal.returns-in-Put-clause-err
-returns-in-Put-clause-err g c =
+pub returns-in_ok-head-in-Put-clause-err : goal.returns-in_ok-head-in-Put-clause-err
+returns-in_ok-head-in-Put-clause-err g c =
     let old = c.args.self.now in
     let read = read_some old.options c.args.line.now c.in_ok-object.field-0 c.in-Some.object (body.Put c.in-Put.format c.in-Put.text) c.in-Some.is c.in-Put.is c.in_ok-object.ensures in
-    let text : PutText = record { line = c.number-number.result; bytes = c.truncate.new.self; format = c.in-Put.format; tag = c.in-Some.object.tag } in
+    let text : PutText = record { line = c.number-number.result; head = c.in_ok-head-in-Put.head; bytes = c.truncate.new.self; format = c.in-Put.format; tag = c.in-Some.object.tag } in
     on_err_weaker c.put.result
     (λ h. fails_one g.S.EntryStage.Took g.S.EntryStage.TookPart g.S.EntryStage.gathered old c.put.new.self (of_cut old.options c.args.line.now) h.label (put_entry text.format text.bytes.items)
     (λ P made l is. made None l
-    (gives_put_object old.options (old.count.lines + 1) l c.in-Put.text.items text h.label h.labelled c.number-number.ensures c.truncate.ensures.items
+    (gives_put_object old.options (old.count.lines + 1) l c.args.line.now c.in-Put.text.items text h.label h.labelled c.number-number.ensures c.in_ok-head-in-Put.ensures.items is c.truncate.ensures.items
     (says_put_object old.options c.args.line.now (old.count.lines + 1) (option_map (λ t. t.items) c.in-Some.object.tag) c.in-Put.format c.in-Put.text.items c.requires.objects read l is))) h.fails)
     c.put.ensures.err
+
+pub returns-in_err-head-in-Put-clause-err : goal.returns-in_err-head-in-Put-clause-err
+returns-in_err-head-in-Put-clause-err g c =
+    let p = err_from_is_err_and c.from_residual-in_err-head-in-Put.result c.from_residual-in_err-head-in-Put.ensures.1 in
+    rw p.1
+    (fails_unread g.S.EntryStage.Took g.S.EntryStage.TookPart g.S.EntryStage.gathered g.met.S.EntryStage.is_part c.args.self.now c.args.self.now (of_cut c.args.self.now.options c.args.line.now) refl (λ P all l is. all None l tt))
 
 pub returns-in-Bad-clause-ok : goal.returns-in-Bad-clause-ok
 returns-in-Bad-clause-ok g c =
@@ -89,8 +95,8 @@ returns-in-Bad-clause-ok g c =
     let read = read_some old.options c.args.line.now c.in_ok-object.field-0 c.in-Some.object body.Bad c.in-Some.is c.in-Bad.is c.in_ok-object.ensures in
     let tagged = subst (λ (t : Option (List ℕ)). IsObjectRead old.options c.args.line.now (Some (record { tag = t; body = as_bad }))) (sym c.tag_of-in-Bad.ensures) read in
     on_ok_weaker c.end_bad_object-in-Bad.result
-    (ends_of g.S.EntryStage.Took g.S.EntryStage.gathered old c.end_bad_object-in-Bad.new.self (of_meaning old.options (nameless (old.count.lines + 1) (bytes_of c.tag_of-in-Bad.result)) line.Bad) (of_cut old.options c.args.line.now)
-    (λ P h l is. h l (says_bad_object old.options c.args.line.now (old.count.lines + 1) (bytes_of c.tag_of-in-Bad.result) c.requires.objects tagged l is)))
+    (ends_of g.S.EntryStage.Took g.S.EntryStage.gathered old c.end_bad_object-in-Bad.new.self (of_meaning old.options (nameless (old.count.lines + 1) c.args.line.now (bytes_of c.tag_of-in-Bad.result)) line.Bad) (of_cut old.options c.args.line.now)
+    (λ P h l is. h l (says_bad_object old.options c.args.line.now (old.count.lines + 1) (bytes_of c.tag_of-in-Bad.result) c.requires.objects tagged l is) is))
     c.end_bad_object-in-Bad.ensures.ok
 
 pub returns-in-Bad-clause-err : goal.returns-in-Bad-clause-err
@@ -99,6 +105,6 @@ returns-in-Bad-clause-err g c =
     let read = read_some old.options c.args.line.now c.in_ok-object.field-0 c.in-Some.object body.Bad c.in-Some.is c.in-Bad.is c.in_ok-object.ensures in
     let tagged = subst (λ (t : Option (List ℕ)). IsObjectRead old.options c.args.line.now (Some (record { tag = t; body = as_bad }))) (sym c.tag_of-in-Bad.ensures) read in
     on_err_weaker c.end_bad_object-in-Bad.result
-    (fails_of g.S.EntryStage.Took g.S.EntryStage.TookPart g.S.EntryStage.gathered old c.end_bad_object-in-Bad.new.self (of_meaning old.options (nameless (old.count.lines + 1) (bytes_of c.tag_of-in-Bad.result)) line.Bad) (of_cut old.options c.args.line.now)
-    (λ P h l is. h l (says_bad_object old.options c.args.line.now (old.count.lines + 1) (bytes_of c.tag_of-in-Bad.result) c.requires.objects tagged l is)))
+    (fails_of g.S.EntryStage.Took g.S.EntryStage.TookPart g.S.EntryStage.gathered old c.end_bad_object-in-Bad.new.self (of_meaning old.options (nameless (old.count.lines + 1) c.args.line.now (bytes_of c.tag_of-in-Bad.result)) line.Bad) (of_cut old.options c.args.line.now)
+    (λ P h l is. h l (says_bad_object old.options c.args.line.now (old.count.lines + 1) (bytes_of c.tag_of-in-Bad.result) c.requires.objects tagged l is) is))
     c.end_bad_object-in-Bad.ensures.err

@@ -7,9 +7,9 @@ use Rattle.scrib_labelled.proofs.labelled_run.LabelledRun.end_bad_object.Goals a
 pub returns-clause-ok : goal.returns-clause-ok
 returns-clause-ok g c =
     let old = c.args.self.now in
-    subst (λ (n : ℕ). OnOk c.end_meaning.result (EndsLine g.S.EntryStage.Took g.S.EntryStage.gathered old c.end_meaning.new.self (of_meaning old.options (nameless n (bytes_of c.args.tag)) line.Bad))) c.number.ensures c.end_meaning.ensures.ok
+    subst (λ (n : ℕ). OnOk c.end_meaning.result (EndsLine g.S.EntryStage.Took g.S.EntryStage.gathered old c.end_meaning.new.self (of_meaning old.options (nameless n c.args.text.now (bytes_of c.args.tag)) line.Bad))) c.number.ensures c.end_meaning.ensures.ok
 
 pub returns-clause-err : goal.returns-clause-err
 returns-clause-err g c =
     let old = c.args.self.now in
-    subst (λ (n : ℕ). OnErr c.end_meaning.result (FailsLine g.S.EntryStage.Took g.S.EntryStage.TookPart g.S.EntryStage.gathered old c.end_meaning.new.self (of_meaning old.options (nameless n (bytes_of c.args.tag)) line.Bad))) c.number.ensures c.end_meaning.ensures.err
+    subst (λ (n : ℕ). OnErr c.end_meaning.result (FailsLine g.S.EntryStage.Took g.S.EntryStage.TookPart g.S.EntryStage.gathered old c.end_meaning.new.self (of_meaning old.options (nameless n c.args.text.now (bytes_of c.args.tag)) line.Bad))) c.number.ensures c.end_meaning.ensures.err

@@ -10,11 +10,11 @@ returns-in_default-clause-ok g c = text_none g.S.EntryStage.Took g.S.EntryStage.
 pub returns-clause-ok : goal.returns-clause-ok
 returns-clause-ok g c =
     on_ok_weaker c.take-2.result
-    (text_ended g.S.EntryStage.Took g.S.EntryStage.gathered c.args.self.now _ c.in-Some.text (label_of (record { line = c.in-Some.text.line; tag = c.tag_of.result; session = None })) (sym c.take.ensures.value ∙ c.in-Some.is) (record { line = refl; tag = c.tag_of.ensures; session = refl }))
+    (text_ended g.S.EntryStage.Took g.S.EntryStage.gathered c.args.self.now _ c.in-Some.text (label_of (record { line = c.in-Some.text.line; text = c.as_slice.result; tag = c.tag_of.result; session = None })) (sym c.take.ensures.value ∙ c.in-Some.is) (record { line = refl; head = c.as_slice.ensures.value; tag = c.tag_of.ensures; session = refl }))
     c.take-2.ensures.ok
 
 pub returns-clause-err : goal.returns-clause-err
 returns-clause-err g c =
     on_err_weaker c.take-2.result
-    (text_fails g.S.EntryStage.Took g.S.EntryStage.TookPart g.S.EntryStage.gathered c.args.self.now _ c.in-Some.text (label_of (record { line = c.in-Some.text.line; tag = c.tag_of.result; session = None })) (sym c.take.ensures.value ∙ c.in-Some.is) (record { line = refl; tag = c.tag_of.ensures; session = refl }))
+    (text_fails g.S.EntryStage.Took g.S.EntryStage.TookPart g.S.EntryStage.gathered c.args.self.now _ c.in-Some.text (label_of (record { line = c.in-Some.text.line; text = c.as_slice.result; tag = c.tag_of.result; session = None })) (sym c.take.ensures.value ∙ c.in-Some.is) (record { line = refl; head = c.as_slice.ensures.value; tag = c.tag_of.ensures; session = refl }))
     c.take-2.ensures.err

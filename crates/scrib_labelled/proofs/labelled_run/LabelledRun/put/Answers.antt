@@ -7,13 +7,13 @@ use Rattle.scrib_labelled.proofs.labelled_run.LabelledRun.put.Goals as goal
 
 pub returns-clause-ok : goal.returns-clause-ok
 returns-clause-ok g c =
-    let label = label_of (record { line = c.args.text.line; tag = c.tag_of.result; session = None }) in
+    let label = label_of (record { line = c.args.text.line; text = c.as_slice.result; tag = c.tag_of.result; session = None }) in
     on_ok_weaker c.take.result
     (λ h. record {
       same = (refl, refl, refl);
       rest = refl;
       label = label;
-      labelled = record { line = refl; tag = c.tag_of.ensures; session = refl };
+      labelled = record { line = refl; head = c.as_slice.ensures.value; tag = c.tag_of.ensures; session = refl };
       takes =
           subst (λ (bytes : List ℕ). TakesEntry g.S.EntryStage.Took g.S.EntryStage.gathered c.args.self.now.stage c.take.new.self label (put_entry c.args.text.format bytes)) c.from_vec.ensures h;
     })
@@ -21,11 +21,11 @@ returns-clause-ok g c =
 
 pub returns-clause-err : goal.returns-clause-err
 returns-clause-err g c =
-    let label = label_of (record { line = c.args.text.line; tag = c.tag_of.result; session = None }) in
+    let label = label_of (record { line = c.args.text.line; text = c.as_slice.result; tag = c.tag_of.result; session = None }) in
     on_err_weaker c.take.result
     (λ h. record {
       label = label;
-      labelled = record { line = refl; tag = c.tag_of.ensures; session = refl };
+      labelled = record { line = refl; head = c.as_slice.ensures.value; tag = c.tag_of.ensures; session = refl };
       fails =
           subst (λ (bytes : List ℕ). FailsEntry g.S.EntryStage.Took g.S.EntryStage.TookPart g.S.EntryStage.gathered c.args.self.now.stage c.take.new.self label (put_entry c.args.text.format bytes)) c.from_vec.ensures h;
     })

@@ -11,4 +11,5 @@ returns c = record {
   format = refl;
   tag = refl;
   line = refl;
+  head = refl;
 }
