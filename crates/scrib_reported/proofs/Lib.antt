@@ -3,4 +3,5 @@ mod OffenceLemmas
 mod ReportLemmas
 mod StepLemmas
 mod EntryLemmas
+mod SweepLemmas
 mod OutputLemmas

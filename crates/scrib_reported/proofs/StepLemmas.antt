@@ -76,7 +76,7 @@ judged-closes w u (step.Turn j) i n k v b id e a = a.replies
 judged-closes w u (step.Ask j) i n k v b id e a = no-judged id e
 judged-closes w u (step.Close j) i n k v b id e a = no-judged id e
 
-judged_unchanged : (w u : State) (s : Step) (r : Reply) (id : ℕ) → judged_by s ≡ Some id → IsAnswered w s r u → change_by r ≡ change.Unchanged
+pub judged_unchanged : (w u : State) (s : Step) (r : Reply) (id : ℕ) → judged_by s ≡ Some id → IsAnswered w s r u → change_by r ≡ change.Unchanged
 judged_unchanged w u s (reply.Edited e cs) id judged a = refl
 judged_unchanged w u s (reply.Profiled p) id judged a = refl
 judged_unchanged w u s (reply.Opened i n) id judged a = absurd (judged-opens w u s i n id judged a)
@@ -85,7 +85,7 @@ judged_unchanged w u s (reply.Judged i n events told) id judged a = refl
 judged_unchanged w u s (reply.Closed i n events verdict complete) id judged a = absurd (judged-closes w u s i n events verdict complete id judged a)
 judged_unchanged w u s (reply.Refused f) id judged a = refl
 
-one-reply : (names : Naming) (session : Option (List ℕ × ℕ)) (r : Reply) (name : List ℕ) → after_reply names session r name ≡ after_change names session (change_by r) name
+pub one-reply : (names : Naming) (session : Option (List ℕ × ℕ)) (r : Reply) (name : List ℕ) → after_reply names session r name ≡ after_change names session (change_by r) name
 one-reply names None r name = refl
 one-reply names (Some s) (reply.Edited e cs) name = refl
 one-reply names (Some s) (reply.Profiled p) name = refl
@@ -107,7 +107,7 @@ same-change names others (Some s) change.Closed name same = ap (λ (n : Option �
 same-change names others (Some s) change.Unchanged name same = same
 
 -- what the replies change in the numbers of names
-replies-change : (names : Naming) (session : Option (List ℕ × ℕ)) (replies : List Reply) (c : Change) → IsChangeBy replies c → (name : List ℕ) → after_change names session c name ≡ after_replies names session replies name
+pub replies-change : (names : Naming) (session : Option (List ℕ × ℕ)) (replies : List Reply) (c : Change) → IsChangeBy replies c → (name : List ℕ) → after_change names session c name ≡ after_replies names session replies name
 replies-change names session [] c h name = ap (λ (x : Change). after_change names session x name) h ∙ sym (unchanged names session name)
 replies-change names session (r ∷ []) c h name = ap (λ (x : Change). after_change names session x name) h ∙ sym (one-reply names session r name)
 replies-change names session (r ∷ q ∷ rs) c h name =
@@ -173,12 +173,12 @@ name_back (Some n) id = refl
 abbrev pub exchange_step_line : (line : ℕ) (tag name : Option (Bor (List ℕ))) → Format → StepLine
 exchange_step_line line tag name f = record { number = line; tag = bytes_of tag; name = bytes_of name; format = f }
 
-same_line : (line : ℕ) (tag name : Option (Bor (List ℕ))) (id : ℕ) (f : Format) → exchange_step_line line tag name f ≡ step_line (record { line = line; tag = bytes_of tag; session = named_id name id }) f
-same_line line tag name id f = ap (λ (n : Option (List ℕ)). record { number = line; tag = bytes_of tag; name = n; format = f }) (sym (name_back name id))
+same_line : (line : ℕ) (text : List ℕ) (tag name : Option (Bor (List ℕ))) (id : ℕ) (f : Format) → exchange_step_line line tag name f ≡ step_line (record { line = line; text = text; tag = bytes_of tag; session = named_id name id }) f
+same_line line text tag name id f = ap (λ (n : Option (List ℕ)). record { number = line; tag = bytes_of tag; name = n; format = f }) (sym (name_back name id))
 
-module _ (old new : ReportingMonitor) (line : ℕ) (tag name : Option (Bor (List ℕ))) (id : ℕ) (e : Event) (style : new.style ≡ old.style) where
+module _ (old new : ReportingMonitor) (line : ℕ) (text : List ℕ) (tag name : Option (Bor (List ℕ))) (id : ℕ) (e : Event) (style : new.style ≡ old.style) where
   abbrev label : LineLabel
-  label = record { line = line; tag = bytes_of tag; session = named_id name id }
+  label = record { line = line; text = text; tag = bytes_of tag; session = named_id name id }
 
   abbrev here : StepLine
   here = exchange_step_line line tag name (reply_format old.style.format format.Line)
@@ -193,7 +193,7 @@ module _ (old new : ReportingMonitor) (line : ℕ) (tag name : Option (Bor (List
     more = more;
     carries =
         alone (kept_in new) (state_in new) (note_reply_of id outcome) more answered (note_stays old.style.closes id e outcome (state_in old) (state_in new) test answered)
-        (subst (λ (l : StepLine). IsReported l (state_in new) (kept_in old) (kept_in new) (step.Note id e) (note_reply_of id outcome) more) (same_line line tag name id (reply_format old.style.format format.Line)) reported);
+        (subst (λ (l : StepLine). IsReported l (state_in new) (kept_in old) (kept_in new) (step.Note id e) (note_reply_of id outcome) more) (same_line line text tag name id (reply_format old.style.format format.Line)) reported);
     named = λ n.
         ap (λ (s : _). number_of s n) names ∙ unchanged (number_of old.names) (named_id name id) n ∙ ap (λ (x : Change). after_change (number_of old.names) (named_id name id) x n) (note_change id outcome)
         ∙ replies-change (number_of old.names) (named_id name id) (note_reply_of id outcome ∷ []) (change_by (note_reply_of id outcome)) refl n;
@@ -209,7 +209,7 @@ module _ (old new : ReportingMonitor) (line : ℕ) (tag name : Option (Bor (List
     replies = replies;
     more = more;
     carries =
-        subst (λ (l : StepLine). Makes old.style.closes l (kept_in old) (state_in old) (step.Note id e) (kept_in new) (state_in new) replies more) (same_line line tag name id (reply_format old.style.format format.Line)) makes;
+        subst (λ (l : StepLine). Makes old.style.closes l (kept_in old) (state_in old) (step.Note id e) (kept_in new) (state_in new) replies more) (same_line line text tag name id (reply_format old.style.format format.Line)) makes;
     named = λ n. names n ∙ replies-change (number_of old.names) (named_id name id) replies c changes n;
     grows = grows;
   }
@@ -268,6 +268,10 @@ note_opens closes l old new w v id e replies more c (with_close mid n u t i r q 
 
 -- ---- items
 
+-- no reply changes nothing
+pub renames_nothing : (names : Naming) (session : Option (List ℕ × ℕ)) (name : List ℕ) → after_change names session change.Unchanged name ≡ names name
+renames_nothing names session name = sym (unchanged names session name)
+
 -- the line of a step is that of its label
 pub head_line : (h : StepHead) (label : LineLabel) (f : Format) → h.number ≡ label.line → bytes_of h.tag ≡ label.tag → bytes_of h.name ≡ session_name label.session → h.format ≡ f → line_of h ≡ step_line label f
 head_line h label f number tag name format = λ i. record { number = number i; tag = tag i; name = name i; format = format i }
@@ -280,7 +284,7 @@ item_step old new t label h asked made c line empty m = record {
   carries =
       subst (λ (x : List ℕ). Makes old.style.closes (step_line label (reply_format old.style.format asked)) (kept_in old) (state_in old) made (kept_in new) (state_in new) m.replies x) (sym (m.grows ∙ ap (λ (x : List ℕ). x ++ m.more) empty))
       (subst (λ (l : StepLine). Makes old.style.closes l (kept_in old) (state_in old) made (kept_in new) (state_in new) m.replies m.more) line m.makes);
-  changes = m.changes;
+  renames = λ names session name. replies-change names session m.replies c m.changes name;
 }
 
 -- an item that was carried out, with its names and its text
@@ -293,7 +297,7 @@ carries_item old taken renamed g label i c t took same names grows = record {
   more = taken.reporter.text.items;
   carries = subst (λ (m : ReportingMonitor). Carries old.style label (kept_in old) (state_in old) i (kept_in m) (state_in m) t.replies taken.reporter.text.items) (sym same) t.carries;
   named = λ n.
-      names n ∙ ap (λ (m : ReportingMonitor). after_change (number_of m.names) label.session c n) took ∙ replies-change (number_of old.names) label.session t.replies c t.changes n;
+      names n ∙ ap (λ (m : ReportingMonitor). after_change (number_of m.names) label.session c n) took ∙ t.renames (number_of old.names) label.session n;
   grows =
       grows ∙ ap (λ (m : ReportingMonitor). m.gathered.bytes.items ++ m.reporter.text.items) same
       ∙ ap (λ (m : ReportingMonitor). m.gathered.bytes.items ++ taken.reporter.text.items) took;
@@ -327,40 +331,40 @@ pub permitted_note : (outcome : Result Noted Refusal) → is_permitted_note outc
 permitted_note (Ok n) e = (n.place, ap (λ (t : Told). Ok (record { place = n.place; told = t })) (told_permitted n.told e))
 permitted_note (Err f) e = absurd (false≢true e)
 
-module _ (old : ReportingMonitor) (k : Held) (line : ℕ) (tag name : Option (Bor (List ℕ))) (id : ℕ) (e : Event) (outcome : Result Noted Refusal) (answered : IsAnswered (state_in old) (step.Note id e) (note_reply_of id outcome) (held.state_of k))
+module _ (old : ReportingMonitor) (k : Held) (line : ℕ) (text : List ℕ) (tag name : Option (Bor (List ℕ))) (id : ℕ) (e : Event) (outcome : Result Noted Refusal) (answered : IsAnswered (state_in old) (step.Note id e) (note_reply_of id outcome) (held.state_of k))
     (test : (old.style.closes && not (is_send e)) ≡ false) where
   -- a permitted event, of which the line alone is kept
   pub permitted_carried : (kept : KeptConversations) (place : ℕ) → outcome ≡ Ok (record { place = place; told = tell.Judged verdict.Permitted }) → IsKept (kept_in old) id (with_line (kept_in old id) line) (keeping kept)
-      → CarriesOut old (record old { core = k; reporter = record old.reporter { kept = kept } }) (record { line = line; tag = bytes_of tag; session = named_id name id }) (item.Step format.Line (step.Note id e))
+      → CarriesOut old (record old { core = k; reporter = record old.reporter { kept = kept } }) (record { line = line; text = text; tag = bytes_of tag; session = named_id name id }) (item.Step format.Line (step.Note id e))
   permitted_carried kept place is added =
       let new : ReportingMonitor = record old { core = k; reporter = record old.reporter { kept = kept } } in
-      carries_note old new line tag name id e refl outcome [] answered test
+      carries_note old new line text tag name id e refl outcome [] answered test
       (permitted_silent (exchange_step_line line tag name (reply_format old.style.format format.Line)) (held.state_of k) (kept_in old) (keeping kept) id place e outcome is added) refl
       (sym (append-nil old.gathered.bytes.items))
 
   -- any other event
   pub noted_carried : (new : ReportingMonitor) (h : StepHead) → line_of h ≡ exchange_step_line line tag name (reply_format old.style.format format.Line) → GathersReply h (record old { core = k }) new (step.Note id e) (note_reply_of id outcome)
       → new ≡ record old { core = k; reporter = new.reporter; gathered = new.gathered }
-      → CarriesOut old new (record { line = line; tag = bytes_of tag; session = named_id name id }) (item.Step format.Line (step.Note id e))
+      → CarriesOut old new (record { line = line; text = text; tag = bytes_of tag; session = named_id name id }) (item.Step format.Line (step.Note id e))
   noted_carried new h is g same =
       let state : held.state_of k ≡ state_in new = sym (ap (λ (m : ReportingMonitor). state_in m) same) in
-      carries_note old new line tag name id e (ap (λ (m : ReportingMonitor). m.style) same) outcome g.more
+      carries_note old new line text tag name id e (ap (λ (m : ReportingMonitor). m.style) same) outcome g.more
       (subst (λ (s : State). IsAnswered (state_in old) (step.Note id e) (note_reply_of id outcome) s) state answered) test
       (subst (λ (s : State). IsReported (exchange_step_line line tag name (reply_format old.style.format format.Line)) s (kept_in old) (kept_in new) (step.Note id e) (note_reply_of id outcome) g.more) state
       (subst (λ (l : StepLine). IsReported l (held.state_of k) (kept_in old) (kept_in new) (step.Note id e) (note_reply_of id outcome) g.more) is g.reported))
       (ap (λ (m : ReportingMonitor). m.names) same) g.grows
 
 -- an event behind which its conversation may be closed
-pub closed_carried : (old made renamed : ReportingMonitor) (t : Vec ℕ Global) (g : Gathered) (h : StepHead) (line : ℕ) (tag name : Option (Bor (List ℕ))) (id : ℕ) (e : Event) (c : Change)
+pub closed_carried : (old made renamed : ReportingMonitor) (t : Vec ℕ Global) (g : Gathered) (h : StepHead) (line : ℕ) (text : List ℕ) (tag name : Option (Bor (List ℕ))) (id : ℕ) (e : Event) (c : Change)
     → line_of h ≡ exchange_step_line line tag name (reply_format old.style.format format.Line) → t.items ≡ [] → MakesAll h (record old { reporter = record old.reporter { text = t } }) made (step.Note id e) c
     → made ≡ record old { core = made.core; reporter = made.reporter } → renamed ≡ record made { names = renamed.names }
     → (c ≢ change.Opened → (n : List ℕ) → number_of renamed.names n ≡ after_change (number_of made.names) (named_id name id) c n)
     → g.bytes.items ≡ renamed.gathered.bytes.items ++ renamed.reporter.text.items
-    → CarriesOut old (record renamed { gathered = g }) (record { line = line; tag = bytes_of tag; session = named_id name id }) (item.Step format.Line (step.Note id e))
-closed_carried old made renamed t g h line tag name id e c is empty m done same names grows =
+    → CarriesOut old (record renamed { gathered = g }) (record { line = line; text = text; tag = bytes_of tag; session = named_id name id }) (item.Step format.Line (step.Note id e))
+closed_carried old made renamed t g h line text tag name id e c is empty m done same names grows =
     let here = exchange_step_line line tag name (reply_format old.style.format format.Line) in
     let opens = note_opens old.style.closes (line_of h) (kept_in old) (kept_in made) (state_in old) (state_in made) id e m.replies m.more c m.makes m.changes in
-    carries_all_of_note old (record renamed { gathered = g }) line tag name id e (ap (λ (x : ReportingMonitor). x.style) same ∙ ap (λ (x : ReportingMonitor). x.style) done) m.replies m.more c
+    carries_all_of_note old (record renamed { gathered = g }) line text tag name id e (ap (λ (x : ReportingMonitor). x.style) same ∙ ap (λ (x : ReportingMonitor). x.style) done) m.replies m.more c
     (subst (λ (x : ReportingMonitor). Makes old.style.closes here (kept_in old) (state_in old) (step.Note id e) (kept_in x) (state_in x) m.replies m.more) (sym same)
     (subst (λ (l : StepLine). Makes old.style.closes l (kept_in old) (state_in old) (step.Note id e) (kept_in made) (state_in made) m.replies m.more) is m.makes))
     m.changes (λ n. names opens n ∙ ap (λ (x : ReportingMonitor). after_change (number_of x.names) (named_id name id) c n) done)

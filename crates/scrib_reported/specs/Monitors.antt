@@ -1,13 +1,15 @@
 -- What a monitor that reports does with steps and items (this project's own). Only contracts of private functions cite
 -- this file.
-use Rattle.std.specs.Prelude.{◌≡◌, ℕ, Bool, false, List, ◌++◌, Some, Result, Ok, Err}
+use Rattle.std.specs.Prelude.{◌≡◌, ℕ, Bool, false, List, ◌++◌, Option, Some, Result, Ok, Err}
 use Rattle.scrib_core.specs.declared.conversation_steps.Noted.{Noted}
 use Rattle.scrib_core.specs.declared.reply.Refusal.{Refusal}
 use Rattle.scrib_core.specs.declared.reply.Reply.{Reply}
 use Rattle.scrib_core.specs.declared.step.Step.{Step}
 use Rattle.scrib_core.specs.Answers.{State, IsAnswered}
 use Rattle.scrib_core.specs.Held as held
+use Rattle.scrib_core.specs.Marks.{Fresh}
 use Rattle.scrib_core.specs.Permitted.{is_permitted_verdict}
+use Rattle.scrib_sweep.specs.ConversationTurns.{AreTurnsOf}
 use Rattle.scrib_closing.specs.ClosingScripts.{is_accepted}
 use Rattle.scrib_labels.specs.Naming.{number_of}
 use Rattle.scrib_report.specs.PutBack.{bytes_of}
@@ -16,7 +18,7 @@ use Rattle.scrib_findings.specs.declared.finding.Finding.TheVariants as finding
 use Rattle.scrib_findings.specs.declared.finding.FoundOffence.{FoundOffence}
 use Rattle.scrib_labelled.specs.declared.labelled_monitor.Change.{Change}
 use Rattle.scrib_labelled.specs.declared.label_options.LabelledStyle.{LabelledStyle}
-use Rattle.scrib_labelled.specs.Changes.{IsChangeBy, change_by}
+use Rattle.scrib_labelled.specs.Changes.{IsChangeBy, after_change, change_by}
 use Rattle.scrib_labelled.specs.LabelledEntries.{LabelledEntry, items_among}
 use Rattle.scrib_labelled.specs.LabelledLines.{LineLabel}
 use Rattle.scrib_labelled.specs.LabelledRuns.{Naming, after_replies}
@@ -27,7 +29,7 @@ use Rattle.scrib_reported.specs.declared.reporting_monitor.ReportingMonitor.{Rep
 use Rattle.scrib_reported.specs.declared.step_head.StepHead.{StepHead}
 use Rattle.scrib_reported.specs.Kept.{IsKept, Keeping, keeping}
 use Rattle.scrib_reported.specs.ReportedReplies.{FindsOffence, IsReported, StepLine, found_text}
-use Rattle.scrib_reported.specs.ReportedRuns.{Carries, Makes, ReportedRuns}
+use Rattle.scrib_reported.specs.ReportedRuns.{Carries, Makes, ReportedRuns, ReportedSweep, SweepTurns}
 
 -- the line of a step
 abbrev pub line_of : StepHead → StepLine
@@ -83,12 +85,38 @@ pub record MakesAll (h : StepHead) (old new : ReportingMonitor) (made : Step) (c
   pub changes : IsChangeBy replies c
   pub grows : new.reporter.text.items ≡ old.reporter.text.items ++ more
 
+-- turns of a sweep were made and reported, and each was accepted, or the last one was refused
+pub record MakesTurns (h : StepHead) (old new : ReportingMonitor) (accepted : Bool) : Type 0 where
+  pub replies : List Reply
+  pub more : List ℕ
+  pub turns : SweepTurns (line_of h) (kept_in old) (state_in old) accepted (kept_in new) (state_in new) replies more
+  pub grows : new.reporter.text.items ≡ old.reporter.text.items ++ more
+
+-- turns of this conversation were made, which leave the marks of the others, and it is not stale behind them
+pub record RenewsConversation (s : State) (id : ℕ) (t : State) : Type 0 where
+  pub count : ℕ
+  pub made : AreTurnsOf s id count t
+  pub fresh : t.marks id ≡ Fresh
+
+-- a sweep was made and reported
+pub record MakesSweep (h : StepHead) (old new : ReportingMonitor) : Type 0 where
+  pub replies : List Reply
+  pub more : List ℕ
+  pub sweeps : ReportedSweep (line_of h) (kept_in old) (state_in old) (kept_in new) (state_in new) replies more
+  pub grows : new.reporter.text.items ≡ old.reporter.text.items ++ more
+
+-- the replies change this in the numbers of names
+abbrev pub Renames : List Reply → Change → Type 0
+Renames replies c =
+    (names : Naming) (session : Option (List ℕ × ℕ)) (name : List ℕ)
+    → after_change names session c name ≡ after_replies names session replies name
+
 -- the item of a line with this label was carried out, and made this text
 pub record CarriesItem (old new : ReportingMonitor) (label : LineLabel) (i : Item) (c : Change) : Type 0 where
   pub replies : List Reply
   pub carries : Carries old.style label (kept_in old) (state_in old) i (kept_in new) (state_in new) replies
       new.reporter.text.items
-  pub changes : IsChangeBy replies c
+  pub renames : Renames replies c
 
 -- the same, and its text was gathered
 pub record CarriesOut (old new : ReportingMonitor) (label : LineLabel) (i : Item) : Type 0 where

@@ -1,16 +1,17 @@
 -- What scripts write with findings in place of replies (this project's own).
-use Rattle.std.specs.Prelude.{◌≡◌, ◌⊎◌, ℕ, Bool, true, List, [], ◌∷◌, ◌++◌, Option, None}
+use Rattle.std.specs.Prelude.{◌≡◌, ◌⊎◌, ℕ, Bool, true, false, List, [], ◌∷◌, ◌++◌, Option, None}
 use Rattle.scrib_core.specs.declared.format.Format.{Format}
 use Rattle.scrib_core.specs.declared.reply.Reply.{Reply}
 use Rattle.scrib_core.specs.declared.step.Step.{Step}
-use Rattle.scrib_core.specs.declared.step.Step.TheVariants.{Close}
+use Rattle.scrib_core.specs.declared.step.Step.TheVariants.{Close, Turn}
 use Rattle.scrib_core.specs.Answers.{State, initial, IsAnswered}
 use Rattle.scrib_script_reader.specs.declared.item.Item.{Item}
 use Rattle.scrib_script_reader.specs.declared.item.Item.TheVariants as item
 use Rattle.scrib_script_reader.specs.Scripts.{lines}
 use Rattle.scrib_report.specs.ReplyTexts.{reply_format}
-use Rattle.scrib_report.specs.LabelledReplies.{labelled_bad_line, labelled_end}
-use Rattle.scrib_closing.specs.ClosingScripts.{Completes}
+use Rattle.scrib_report.specs.LabelledReplies.{labelled_bad_line, labelled_end, labelled_swept}
+use Rattle.scrib_sweep.specs.Sweeps.{IsAllFresh, IsFirstStale, IsStaleCount}
+use Rattle.scrib_closing.specs.ClosingScripts.{Completes, is_accepted}
 use Rattle.scrib_labelled.specs.declared.label_options.LabelledStyle.{LabelledStyle}
 use Rattle.scrib_labelled.specs.LabelledEntries.{LabelledEntry, SpellsLabelledEntries, all_entries, items_among}
 use Rattle.scrib_labelled.specs.LabelledLines.{LineLabel}
@@ -34,11 +35,38 @@ pub data Makes (closes : Bool) (l : StepLine) (old : Keeping) (w : State) (made 
       → closes ≡ true → Completes made r u id → IsReported l u old mid made r text → IsAnswered u (Close id) c v
       → IsReported l v mid new (Close id) c more → Makes closes l old w made new v (r ∷ c ∷ []) (text ++ more)
 
--- The item of a line with this label is carried out in the same way. Bad lines and an end inside a module text are
--- printed as without reports.
+-- the line of a sweep with this label, which has no name, since it is of no single conversation
+abbrev pub sweep_line : LineLabel → Format → StepLine
+sweep_line label f = record { number = label.line; tag = label.tag; name = None; format = f }
+
+-- Turns of a sweep at this line: from what is kept and a state to others, with these replies and this text, and whether
+-- each turn was accepted. A turn is of the stale conversation of the least id, and is reported as that of any line is. So
+-- the turns go by rising ids, and a conversation has turns until it is not stale. A turn that is refused is the last one.
+pub data SweepTurns (l : StepLine) (old : Keeping) (w : State)
+    : (accepted : Bool) → Keeping → State → List Reply → List ℕ → Type 0 where
+  no_turn : SweepTurns l old w true old w [] []
+  one_more : (mid new : Keeping) (u v : State) (replies : List Reply) (text : List ℕ) (id : ℕ) (r : Reply)
+      (more : List ℕ) → SweepTurns l old w true mid u replies text → IsFirstStale u id → IsAnswered u (Turn id) r v
+      → IsReported l v mid new (Turn id) r more
+      → SweepTurns l old w (is_accepted r) new v (replies ++ r ∷ []) (text ++ more)
+
+-- A sweep at this line, with the replies to its turns: these turns, until no conversation is stale, and behind their
+-- text how many were stale before them. Where a turn was refused, nothing is written behind the report of this.
+pub data ReportedSweep (l : StepLine) (old : Keeping) (w : State)
+    : Keeping → State → List Reply → List ℕ → Type 0 where
+  judges : (new : Keeping) (v : State) (replies : List Reply) (text : List ℕ) (judged : ℕ)
+      → SweepTurns l old w true new v replies text → IsAllFresh v → IsStaleCount w judged
+      → ReportedSweep l old w new v replies (text ++ labelled_swept l.format l.tag judged)
+  stops : (new : Keeping) (v : State) (replies : List Reply) (text : List ℕ)
+      → SweepTurns l old w false new v replies text → ReportedSweep l old w new v replies text
+
+-- The item of a line with this label is carried out in the same way. A sweep stands for its turns, and closes no
+-- conversation. Bad lines and an end inside a module text are printed as without reports.
 abbrev pub Carries : LabelledStyle → LineLabel → Keeping → State → Item → Keeping → State → List Reply → List ℕ → Type 0
 Carries o label old w (item.Step f s) new v replies text =
     Makes o.closes (step_line label (reply_format o.format f)) old w s new v replies text
+Carries o label old w (item.Sweep f) new v replies text =
+    ReportedSweep (sweep_line label (reply_format o.format f)) old w new v replies text
 Carries o label old w (item.BadLine n) new v replies text =
     (replies ≡ []) × (v ≡ w) × ((i : ℕ) → new i ≡ old i) × (text ≡ labelled_bad_line o.format label.tag n)
 Carries o label old w item.EndOfText new v replies text =

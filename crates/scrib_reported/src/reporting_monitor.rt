@@ -23,11 +23,12 @@ use scrib_labelled::label_options::LabelledStyle;
 use scrib_labelled::labelled_monitor::Change;
 use scrib_labelled::line_parts::{LineParts, Session};
 use scrib_labels::session_names::SessionNames;
-use scrib_report::labelled::{push_labelled_bad_line, push_labelled_end};
+use scrib_report::labelled::{push_labelled_bad_line, push_labelled_end, push_labelled_swept};
 use scrib_report::printing::reply_format;
 use scrib_script_io::fault::ScriptFault;
 use scrib_script_reader::entry::Entry;
 use scrib_script_reader::item::Item;
+use scrib_sweep::stale::stale_conversations;
 use scrib_types::event::{Told, Verdict};
 use scrib_types::shared_event::SharedEvent;
 use std::alloc::{AllocError, Global};
@@ -51,6 +52,8 @@ impl ReportingMonitor {
     ghost use Rattle.scrib_core.specs.ReplyValues.{note_reply_of};
     ghost use Rattle.scrib_types.specs.declared.event.Event.{Event};
     ghost use Rattle.scrib_script_reader.specs.declared.item.Item.TheVariants as item;
+    ghost use Rattle.scrib_sweep.specs.ConversationTurns.{AreEnough};
+    ghost use Rattle.scrib_sweep.specs.Sweeps.{AreStale, IsAllFresh, IsFirstStale};
     ghost use Rattle.scrib_closing.specs.ClosingScripts.{is_send, judged_by};
     ghost use Rattle.scrib_labels.specs.Naming.{number_of};
     ghost use Rattle.scrib_labels.specs.SessionNames.{is_session_name};
@@ -59,7 +62,7 @@ impl ReportingMonitor {
     ghost use Rattle.scrib_labelled.specs.ExchangeLines.{exchange_label, named_id};
     ghost use Rattle.scrib_labelled.specs.NamedLines.{IsNumbersOf, label_of, session_of};
     ghost use Rattle.scrib_reported.specs.Kept.{nothing_kept};
-    ghost use Rattle.scrib_reported.specs.Monitors.{CarriesItem, CarriesOut, GathersReply, MakesAll, MakesStep, gathered_by, kept_in, state_in};
+    ghost use Rattle.scrib_reported.specs.Monitors.{CarriesItem, CarriesOut, GathersReply, MakesAll, MakesStep, MakesSweep, MakesTurns, RenewsConversation, gathered_by, kept_in, state_in};
 
     /// Returns a new monitor, without names.
     pub(crate) fn new(alloc: Global, style: LabelledStyle) -> ReportingMonitor
@@ -104,6 +107,16 @@ impl ReportingMonitor {
                     format: reply_format(self.style.format, asked),
                 };
                 self.push_all(step, head)
+            }
+            Item::Sweep(asked) => {
+                let head = StepHead {
+                    number: parts.line,
+                    tag: parts.tag,
+                    name: None,
+                    format: reply_format(self.style.format, asked),
+                };
+                self.push_sweep(head)?;
+                Ok(Change::Unchanged)
             }
             Item::BadLine(number) => {
                 push_labelled_bad_line(
@@ -206,6 +219,75 @@ impl ReportingMonitor {
             }
             // a turn has no other reply
             _ => unreachable!(),
+        }
+    }
+
+    // Makes and reports turns of the stale conversations, by rising ids, until none is stale, and appends how many were.
+    // A turn that is refused ends the sweep, and nothing is appended behind its report.
+    fn push_sweep(&mut self, head: StepHead<'_>) -> Result<(), AllocError>
+        ensures ok { OnOk result (MakesSweep head.entry self.old self.new) }
+        ensures same { self.new ≡ record self.old { core = self.new.core; reporter = self.new.reporter } }
+    {
+        let alloc = *self.reporter.text.allocator();
+        let stale = stale_conversations(alloc, &self.core)?;
+        let ids = stale.as_slice();
+        if !self.push_turns(ids, head)? {
+            return Ok(());
+        }
+        push_labelled_swept(
+            &mut self.reporter.text,
+            ids.len() as u64,
+            head.format,
+            head.tag,
+        )
+    }
+
+    // Makes and reports turns of the stale conversations, which have these ids, until none is stale, or a turn is
+    // refused. Returns whether each turn was accepted.
+    fn push_turns(&mut self, stale: &[u32], head: StepHead<'_>) -> Result<bool, AllocError>
+        requires { AreStale (state_in self.old) stale.now }
+        ensures ok { IfOk result (λ accepted. MakesTurns head.entry self.old self.new accepted) }
+        ensures fresh { IfOk result (λ accepted. accepted ≡ true → IsAllFresh (state_in self.new)) }
+        ensures same { self.new ≡ record self.old { core = self.new.core; reporter = self.new.reporter } }
+    {
+        for id in stale {
+            if !self.push_turns_of(*id, head)? {
+                return Ok(false);
+            }
+        }
+        Ok(true)
+    }
+
+    // Makes and reports turns of the first stale conversation until it is not stale, or a turn is refused. Returns whether
+    // each turn was accepted.
+    fn push_turns_of(&mut self, id: u32, head: StepHead<'_>) -> Result<bool, AllocError>
+        requires { IsFirstStale (state_in self.old) id }
+        ensures ok { IfOk result (λ accepted. MakesTurns head.entry self.old self.new accepted) }
+        ensures renewed { IfOk result
+            (λ accepted. accepted ≡ true → RenewsConversation (state_in self.old) id (state_in self.new)) }
+        ensures same { self.new ≡ record self.old { core = self.new.core; reporter = self.new.reporter } }
+    {
+        let limit = self.enough_turns(id);
+        for made in 0..limit {
+            let outcome = self.push_turn(id, head)?;
+            if !outcome.accepted {
+                return Ok(false);
+            }
+            if self.core.fresh_record(id).is_some() {
+                return Ok(true);
+            }
+        }
+        // so many turns leave no conversation stale
+        unreachable!()
+    }
+
+    // Returns a number of turns that cover the log of the conversation: each turn judges at least one event.
+    fn enough_turns(&self, id: u32) -> usize
+        ensures { AreEnough (state_in self.now) id result }
+    {
+        match self.core.view(id) {
+            Some((_, log)) => log.len() + 1,
+            None => 1,
         }
     }
 

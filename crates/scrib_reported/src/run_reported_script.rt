@@ -24,6 +24,8 @@ use std::mem::forget;
 ///   It is written again where a turn finds another one.
 /// - That a conversation has no offence any more is written when a turn finds it.
 /// - Each refused step is written, with its line and its conversation.
+/// - For a sweep this is written of each of its turns, with the number of the conversation, and then how many
+///   conversations were stale. A turn that is refused ends the sweep, and this number is not written then.
 /// - Nothing is written for other events, turns and openings.
 /// - Replies to edits, questions and closes, and bad lines, are written as `run_labelled_script` writes them.
 ///
@@ -33,8 +35,8 @@ use std::mem::forget;
 /// After an error, a beginning of the script's output is written.
 /// - `Read` where the reader fails, and in the line of the first byte past the script's limits.
 /// - `Write` where the writer fails.
-/// - `OutOfMemory` where there is no memory for a line, a name, what is kept of an event, or a finding. A step that lacks
-///   memory is reported as refused, and the script continues.
+/// - `OutOfMemory` where there is no memory for a line, a name, what is kept of an event, a finding, or the list of the
+///   stale conversations. A step or a turn that lacks memory is reported as refused, and the script continues.
 pub fn run_reported_script<R: Read, W: Write>(
     alloc: Global,
     style: LabelledStyle,

@@ -11,13 +11,13 @@ returns-then-is_permitted-clause-ok c =
     let l = c.args.line in
     let found = permitted_note c.note_event-noted.result (sym c.is_permitted.ensures ∙ c.if-is_permitted.true) in
     on_ok_weaker c.add_line.result
-    (λ kept. permitted_carried c.args.self.now c.note_event-noted.new.self l.line l.tag l.name l.id l.event c.note_event-noted.result c.note_event-noted.ensures.answered (sym c.may_close.ensures ∙ c.if-may_close.false) c.add_line.new.self found.0 found.1 kept)
+    (λ kept. permitted_carried c.args.self.now c.note_event-noted.new.self l.line l.text.now l.tag l.name l.id l.event c.note_event-noted.result c.note_event-noted.ensures.answered (sym c.may_close.ensures ∙ c.if-may_close.false) c.add_line.new.self found.0 found.1 kept)
     c.add_line.ensures
 
 pub returns-clause-ok : goal.returns-clause-ok
 returns-clause-ok c =
     let l = c.args.line in
     on_ok_weaker c.gather_noted.result
-    (λ h. noted_carried c.args.self.now c.note_event-noted.new.self l.line l.tag l.name l.id l.event c.note_event-noted.result c.note_event-noted.ensures.answered (sym c.may_close.ensures ∙ c.if-may_close.false) c.gather_noted.new.self
+    (λ h. noted_carried c.args.self.now c.note_event-noted.new.self l.line l.text.now l.tag l.name l.id l.event c.note_event-noted.result c.note_event-noted.ensures.answered (sym c.may_close.ensures ∙ c.if-may_close.false) c.gather_noted.new.self
     (record { number = l.line; tag = l.tag; name = l.name; format = c.reply_format.result }) (ap (λ (f : Format). exchange_step_line l.line l.tag l.name f) c.reply_format.ensures) (h l.event) c.gather_noted.ensures.same)
     c.gather_noted.ensures.ok
