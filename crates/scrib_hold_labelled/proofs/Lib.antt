@@ -1,0 +1,10 @@
+mod EntryLemmas
+mod TextLemmas
+mod ShapeLemmas
+mod ObjectLemmas
+mod SaysLemmas
+mod SpellLemmas
+mod ScriptLemmas
+mod SinkLemmas
+mod StageLemmas
+mod OutputLemmas
