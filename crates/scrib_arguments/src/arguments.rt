@@ -209,6 +209,9 @@ fn hold_command<'a>(alloc: Global) -> Result<Command<'a>, AllocError> {
         .about("Prints a script with its events in an order in which they may have happened")
         .after_help(help::HOLD)
         .arg(lines_arg(alloc))?
+        .arg(names_arg(alloc))?
+        .arg(tags_arg(alloc))?
+        .arg(input_arg(alloc))?
         .arg(endless_arg(alloc))?
         .arg(file_arg(alloc))
 }

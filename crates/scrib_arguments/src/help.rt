@@ -74,6 +74,7 @@ Lines of a script:
   recv ID FROM TO MESSAGE  TO received what FROM sent
   ask ID                   prints the verdict
   turn ID                  judges up to 256 more events of a stale conversation
+  sweep                    makes the turns of every stale conversation
   close ID                 takes a conversation out, and prints `complete` where
                            it has ended, else the verdict
   json LINE                one of these lines, its reply as one JSON object

@@ -14,8 +14,9 @@ use scrib_core::format::Format;
 use scrib_held_labels::run_held_labelled_script::run_held_labelled_script;
 use scrib_hold::hold_limits::HoldLimits;
 use scrib_hold::run_held_script::{Counts, run_held_script};
+use scrib_hold_labelled::hold_labelled_script::hold_labelled_script;
 use scrib_hold_lines::hold_script::hold_script;
-use scrib_labelled::label_options::LabelledStyle;
+use scrib_labelled::label_options::{LabelOptions, LabelledStyle};
 use std::alloc::Global;
 use std::io::{Input, Read, Write};
 use std::rt::Files;
@@ -29,6 +30,8 @@ enum HeldOutput {
     LabelledReplies(LabelledStyle),
     // It writes the script anew.
     Script,
+    // It writes the script anew, with the labels of its lines.
+    LabelledScript(LabelOptions),
 }
 
 // Runs `watch` with this value of `--hold`, and returns the exit status.
@@ -61,7 +64,15 @@ pub(crate) fn hold<R: Files + AllocGlobal, I: Input, W: Write, E: Print + Eprint
     matches: &ArgMatches<'_>,
 ) -> u8 {
     let bound = matches.get_str("lines").unwrap_or("");
-    run_held(system, streams, matches, bound, HeldOutput::Script)
+    run_held(system, streams, matches, bound, script_of(matches))
+}
+
+// The script that `hold` writes.
+fn script_of(matches: &ArgMatches<'_>) -> HeldOutput {
+    match labels_of(matches) {
+        Some(labels) => HeldOutput::LabelledScript(labels),
+        None => HeldOutput::Script,
+    }
 }
 
 // Runs the command whose output this is, and returns the exit status.
@@ -120,6 +131,9 @@ fn write_held<'a, R: Read + Drop, W: Write>(
             run_held_labelled_script(alloc, style, limits, &mut script.reader, writer)
         }
         HeldOutput::Script => hold_script(alloc, limits, &mut script.reader, writer),
+        HeldOutput::LabelledScript(labels) => {
+            hold_labelled_script(alloc, labels, limits, &mut script.reader, writer)
+        }
     };
     match written {
         Ok(counts) => Ok(counts),
