@@ -1,6 +1,6 @@
 //! Tests that need code: what is written for readers that give little or fail, and for writers that take little or fail,
 //! where a script is too long by smaller limits than its own, what is held back of short logs, what may come next, why an
-//! event may not follow, which tags and names are taken and put back, and what JSON objects stand for.
+//! event may not follow, which tags and names are taken and put back, what JSON objects stand for, and what sweeps judge.
 #![tactic(auto)]
 
 #[cfg(test)]
@@ -17,3 +17,5 @@ mod reasons;
 mod running;
 #[cfg(test)]
 mod short_logs;
+#[cfg(test)]
+mod sweeps;
