@@ -8,7 +8,8 @@ of the numbered examples. In each line about a conversation the number becomes a
 module texts get a tag in front. Some have a tab behind the tag, and some two blanks. `watch --names --tags` must then
 print what `watch` prints for the stored script, with the word in place of the number and the tag in front. Both are
 compared in lines and in JSON. With `--hold` beside the flags the replies but for their tags must be those of
-`watch --hold`, and each tag must come with a reply to its own line. Scripts with a line that is about a bad number or
+`watch --hold`, and each tag must come with a reply to its own line. `hold` piped into `watch`, both with the flags, must
+print the same replies as `watch --hold` with them, but for the numbers of bad lines. Scripts with a line that is about a bad number or
 near the longest line are left out, and so are those with labels of their own.
 
 Prints how many scripts were compared, and how often each kind of reply had a label. Status: 0 fine; 1 where a reply is
@@ -23,7 +24,7 @@ import sys
 from collections import Counter
 
 from examples import read_examples
-from next_prefixes import PROGRAM, CheckFault, is_script, reply_lines
+from next_prefixes import PROGRAM, CheckFault, is_script, reply_lines, run
 
 WORDS = "open|join|send|recv|ask|turn|close"
 ABOUT = re.compile(r"(?s)((?:[ \t]*json(?=[ \t]))?[ \t]*(?:%s)[ \t]+)([^ \t]+)(.*)" % WORDS)
@@ -143,6 +144,7 @@ def compare(program, pick, script, seen):
             seen.update(kind_of(reply) for reply, tag in zip(plain, labelled.tags) if tag is not None)
     for bound in HELD:
         fault = compare_held(program, script, labelled, ["--hold", bound])
+        fault = fault or compare_written(program, labelled, bound)
         if fault:
             return fault
     return None
@@ -181,6 +183,24 @@ def compare_held(program, script, labelled, words):
         return " ".join(words) + ", other tags"
     wrong = [pair for pair in pairs if pair[0] is not None and not is_of_line(pair[1], labelled.lines_of[pair[0]])]
     return "%s, tag %r of reply %r" % (" ".join(words), *wrong[0]) if wrong else None
+
+
+def without_numbers(replies):
+    """The replies with 0 in place of the numbers of bad lines."""
+    return [re.sub(r"(refused BadLine )[0-9]+", r"\g<1>0", reply) for reply in replies]
+
+
+def compare_written(program, labelled, bound):
+    """Compares `hold` piped into `watch` with `watch --hold`, all with names and tags."""
+    labels = ["--names", "--tags"]
+    *wanted, counts = reply_lines(program, ["watch", "--hold", bound, *labels], labelled.script())
+    written, status = run(program, ["hold", "--lines", bound, *labels], labelled.script())
+    end = written.rindex("scribmon: ")
+    if status != 0 or written[end:] != counts + "\n":
+        return "hold %s, status %d, %r, not %r" % (bound, status, written[end:], counts)
+    wanted = without_numbers(wanted)
+    given = without_numbers(reply_lines(program, ["watch", *labels], written[:end]))
+    return None if given == wanted else "hold %s, %s" % (bound, first_difference(wanted, given))
 
 
 def parse_arguments():

@@ -37,6 +37,7 @@ KEYS = {
     "turn": ["id"],
     "ask": ["id"],
     "close": ["id"],
+    "sweep": [],
 }
 NUMBER = re.compile(r"0|[1-9][0-9]*")
 BAD_LINE = re.compile(r'\A(refused BadLine )[0-9]+\Z|\A(\{"line":)[0-9]+(,"refused":"BadLine"\})\Z')
