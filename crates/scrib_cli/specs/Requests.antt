@@ -24,7 +24,7 @@ abbrev pub HasMemory : RequestReply → Type 0
 HasMemory (OfStep r) = r ≢ Refused OutOfMemory
 HasMemory (OfSweep judged) = IsSome judged
 
--- The reply to one request. A sweep stands for the turns that it makes.
+-- The reply to one request. A sweep is the turns that it makes.
 abbrev pub IsRequestAnswered : State → Request → RequestReply → State → Type 0
 IsRequestAnswered s (ToMake step) (OfStep r) t = IsAnswered s step r t
 IsRequestAnswered s ToSweep (OfSweep judged) t = IsSwept s judged t

@@ -47,7 +47,7 @@ labelled_sweep o tag (Some judged) = labelled_swept o tag judged
 labelled_sweep o tag None = labelled_reply o tag None (reply.Refused OutOfMemory)
 
 -- The item is carried out: from a state to another, with these replies and this output. Each reply to the line has the
--- tag and the name, and the format that the line asks for. A sweep stands for its turns, and has a reply of its own.
+-- tag and the name, and the format that the line asks for. A sweep makes its turns, and has a reply of its own.
 abbrev pub Takes : LabelledStyle → (tag name : Option (List ℕ)) → State → Item → State → List Reply → List ℕ → Type 0
 Takes o tag name w (item.Step f s) v replies out =
     (r : Reply) × (u : State) × (later : List Reply) × IsAnswered w s r u × ClosesBehind o.closes s r u v later

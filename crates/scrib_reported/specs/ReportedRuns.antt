@@ -60,7 +60,7 @@ pub data ReportedSweep (l : StepLine) (old : Keeping) (w : State)
   stops : (new : Keeping) (v : State) (replies : List Reply) (text : List ℕ)
       → SweepTurns l old w false new v replies text → ReportedSweep l old w new v replies text
 
--- The item of a line with this label is carried out in the same way. A sweep stands for its turns, and closes no
+-- The item of a line with this label is carried out in the same way. A sweep makes its turns, and closes no
 -- conversation. Bad lines and an end inside a module text are printed as without reports.
 abbrev pub Carries : LabelledStyle → LineLabel → Keeping → State → Item → Keeping → State → List Reply → List ℕ → Type 0
 Carries o label old w (item.Step f s) new v replies text =
