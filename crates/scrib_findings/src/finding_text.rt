@@ -59,5 +59,11 @@ fn push_tagged_line(
 fn push_tag(out: &mut Vec<u8>, tag: Option<&[u8]>) -> Result<(), AllocError>
     ensures { OnOk result (out.new.items ≡ out.old.items ++ tag_text (bytes_of tag.entry)) }
 {
-    push_labelled_line(out, b"", Label { tag, name: None })
+    let label = Label {
+        tag,
+        name: None,
+        line: None,
+        conversation: None,
+    };
+    push_labelled_line(out, b"", label)
 }

@@ -10,6 +10,14 @@ use Rattle.scrib_report.specs.declared.label.Label.{Label}
 abbrev pub bytes_of : Option (Bor (List ℕ)) → Option (List ℕ)
 bytes_of b = option_map (λ bytes. bytes.now) b
 
+-- What is put back into the replies to a line: its tag, and the name of its conversation. Objects may have the number
+-- of the line, and that of the conversation of its step where they report a refusal.
+pub record ReplyLabel : Type 0 where
+  pub tag : Option (List ℕ)
+  pub name : Option (List ℕ)
+  pub line : Option ℕ
+  pub conversation : Option ℕ
+
 -- the tag of a label
 abbrev pub tag_of : Label → Option (List ℕ)
 tag_of l = bytes_of l.tag
@@ -17,6 +25,14 @@ tag_of l = bytes_of l.tag
 -- the name of a label
 abbrev pub name_of : Label → Option (List ℕ)
 name_of l = bytes_of l.name
+
+-- what a label of the code puts back
+abbrev pub put_back_by : Label → ReplyLabel
+put_back_by l = record { tag = tag_of l; name = name_of l; line = l.line; conversation = l.conversation }
+
+-- the label without the name
+abbrev pub without_name : ReplyLabel → ReplyLabel
+without_name l = record { tag = l.tag; name = None; line = l.line; conversation = l.conversation }
 
 -- what is written for a tag: `@`, the tag and a blank
 abbrev pub tag_text : Option (List ℕ) → List ℕ

@@ -1,10 +1,10 @@
-//! The texts of replies with a tag, and with a name in the place of the conversation's number.
+//! The texts of replies with the label of their line.
 
 ghost use Rattle.std.specs.Prelude.{◌≡◌, ◌++◌, ◌∷◌, [], false, OnOk, IfOk, codes};
 ghost use Rattle.serde_json.specs.Data.{string};
 ghost use Rattle.serde_json.specs.View.{members_view, view};
 ghost use Rattle.serde_json.specs.Written.{compact_text, has_float};
-ghost use Rattle.scrib_report.specs.PutBack.{bytes_of, name_of, tag_of};
+ghost use Rattle.scrib_report.specs.PutBack.{ReplyLabel, bytes_of, put_back_by};
 ghost use Rattle.scrib_report.specs.LabelledReplies as spec;
 
 use crate::json::{reply_value, text_value};
@@ -29,7 +29,7 @@ pub fn push_labelled_reply(
     label: Label<'_>,
 ) -> Result<(), AllocError>
     ensures { OnOk result (out.new.items ≡ out.old.items
-        ++ spec.labelled_reply format (tag_of label.entry) (name_of label.entry) reply.now) }
+        ++ spec.labelled_reply format (put_back_by label.entry) reply.now) }
 {
     match format {
         Format::Line => push_labelled_part(out, &OutputPart::Reply(reply), label),
@@ -37,7 +37,7 @@ pub fn push_labelled_reply(
     }
 }
 
-/// Appends the reply to a sweep that judged so many conversations, in this format and with this tag.
+/// Appends the reply to a sweep that judged so many conversations, in this format and with this label, without a name.
 ///
 /// # Errors
 /// `AllocError` where memory is refused.
@@ -45,12 +45,15 @@ pub fn push_labelled_swept(
     out: &mut Vec<u8>,
     judged: u64,
     format: Format,
-    tag: Option<&[u8]>,
+    label: Label<'_>,
 ) -> Result<(), AllocError>
     ensures { OnOk result (out.new.items ≡ out.old.items
-        ++ spec.labelled_swept format (bytes_of tag.entry) judged) }
+        ++ spec.labelled_swept format (put_back_by label.entry) judged) }
 {
-    let label = Label { tag, name: None };
+    let label = Label {
+        name: None,
+        ..label
+    };
     match format {
         Format::Line => push_labelled_part(out, &OutputPart::Swept(judged), label),
         Format::Json => {
@@ -61,7 +64,7 @@ pub fn push_labelled_swept(
     }
 }
 
-/// Appends the report of a bad line of this number in this format and with this tag.
+/// Appends the report of a bad line of this number in this format and with this label, without a name.
 ///
 /// # Errors
 /// `AllocError` where memory is refused.
@@ -69,12 +72,15 @@ pub fn push_labelled_bad_line(
     out: &mut Vec<u8>,
     number: u64,
     format: Format,
-    tag: Option<&[u8]>,
+    label: Label<'_>,
 ) -> Result<(), AllocError>
     ensures { OnOk result (out.new.items ≡ out.old.items
-        ++ spec.labelled_bad_line format (bytes_of tag.entry) number) }
+        ++ spec.labelled_bad_line format (put_back_by label.entry) number) }
 {
-    let label = Label { tag, name: None };
+    let label = Label {
+        name: None,
+        ..label
+    };
     match format {
         Format::Line => push_labelled_part(out, &OutputPart::BadLine(number), label),
         Format::Json => {
@@ -85,18 +91,21 @@ pub fn push_labelled_bad_line(
     }
 }
 
-/// Appends the report of an end inside a module text in this format and with this tag.
+/// Appends the report of an end inside a module text in this format and with this label, without a name.
 ///
 /// # Errors
 /// `AllocError` where memory is refused.
 pub fn push_labelled_end(
     out: &mut Vec<u8>,
     format: Format,
-    tag: Option<&[u8]>,
+    label: Label<'_>,
 ) -> Result<(), AllocError>
-    ensures { OnOk result (out.new.items ≡ out.old.items ++ spec.labelled_end format (bytes_of tag.entry)) }
+    ensures { OnOk result (out.new.items ≡ out.old.items ++ spec.labelled_end format (put_back_by label.entry)) }
 {
-    let label = Label { tag, name: None };
+    let label = Label {
+        name: None,
+        ..label
+    };
     match format {
         Format::Line => push_labelled_part(out, &OutputPart::EndOfText, label),
         Format::Json => {
@@ -114,7 +123,7 @@ fn push_labelled_part(
     label: Label<'_>,
 ) -> Result<(), AllocError>
     ensures { OnOk result (out.new.items ≡ out.old.items
-        ++ spec.labelled_part (tag_of label.entry) (name_of label.entry) part.now) }
+        ++ spec.labelled_part (put_back_by label.entry) part.now) }
 {
     let line = text_of_part(*out.allocator(), part, Format::Line)?;
     push_labelled_line(out, line.as_slice(), label)
@@ -122,40 +131,75 @@ fn push_labelled_part(
 
 // Appends the JSON of the reply with this label, and an LF.
 fn push_labelled_json(out: &mut Vec<u8>, reply: &Reply, label: Label<'_>) -> Result<(), AllocError>
-    ensures { OnOk result (out.new.items ≡ out.old.items
-        ++ spec.labelled_json (tag_of label.entry) (name_of label.entry) reply.now) }
+    ensures { OnOk result (out.new.items ≡ out.old.items ++ spec.labelled_json (put_back_by label.entry) reply.now) }
 {
-    let value = reply_value(*out.allocator(), reply)?;
-    let name = if has_conversation(reply) {
-        label.name
+    let value = object_of(*out.allocator(), reply, label.conversation)?;
+    if has_conversation(reply, label.conversation) {
+        push_labelled_object(out, value, label)
     } else {
-        None
-    };
-    push_labelled_object(
-        out,
-        value,
-        Label {
-            tag: label.tag,
-            name,
-        },
-    )
+        push_labelled_object(
+            out,
+            value,
+            Label {
+                name: None,
+                ..label
+            },
+        )
+    }
 }
 
-// Returns whether the reply is about one conversation, and has its number.
-fn has_conversation(reply: &Reply) -> bool
-    ensures { result ≡ spec.has_conversation reply.now }
+// Returns the object of the reply. That of a refusal has this conversation, if there is one.
+fn object_of(alloc: Global, reply: &Reply, conversation: Option<u32>) -> Result<Value, AllocError>
+    ensures { IfOk result (λ value. (label : ReplyLabel) → label.conversation ≡ conversation
+        → view value ≡ spec.reply_object label reply.now) }
 {
-    matches!(
-        reply,
-        Reply::Opened { .. } | Reply::Noted { .. } | Reply::Judged { .. } | Reply::Closed { .. }
-    )
+    let value = reply_value(alloc, reply)?;
+    match reply {
+        Reply::Refused(_) => with_conversation(alloc, value, conversation),
+        _ => Ok(value),
+    }
+}
+
+// Returns the object with the number of this conversation, if there is one.
+fn with_conversation(
+    alloc: Global,
+    value: Value,
+    conversation: Option<u32>,
+) -> Result<Value, AllocError>
+    ensures { IfOk result (λ changed. view changed ≡ spec.with_conversation conversation (view value)) }
+{
+    match value {
+        Value::Object(mut members) => {
+            put_number(
+                &mut members,
+                alloc,
+                "conversation",
+                conversation.map(u64::from),
+            )?;
+            Ok(Value::Object(members))
+        }
+        other => Ok(other),
+    }
+}
+
+// Returns whether the object of the reply is about one conversation, and has its number. A refusal may have this one.
+fn has_conversation(reply: &Reply, conversation: Option<u32>) -> bool
+    ensures { (label : ReplyLabel) → label.conversation ≡ conversation
+        → result ≡ spec.has_conversation label reply.now }
+{
+    match reply {
+        Reply::Opened { .. } | Reply::Noted { .. } | Reply::Judged { .. } | Reply::Closed { .. } =>
+            { true }
+        Reply::Refused(_) => conversation.is_some(),
+        _ => false,
+    }
 }
 
 // Appends the object with the members of the label, and an LF.
 fn push_labelled_object(out: &mut Vec<u8>, value: Value, label: Label<'_>) -> Result<(), AllocError>
     requires { has_float (view value) ≡ false }
     ensures { OnOk result (out.new.items ≡ out.old.items
-        ++ (compact_text (spec.with_label (tag_of label.entry) (name_of label.entry) (view value)) ++ 10 ∷ [])) }
+        ++ (compact_text (spec.with_label (put_back_by label.entry) (view value)) ++ 10 ∷ [])) }
 {
     let text = labelled_text(*out.allocator(), value, label)?;
     push_bytes(out, text.as_slice())?;
@@ -166,19 +210,20 @@ fn push_labelled_object(out: &mut Vec<u8>, value: Value, label: Label<'_>) -> Re
 fn labelled_text(alloc: Global, value: Value, label: Label<'_>) -> Result<Vec<u8>, AllocError>
     requires { has_float (view value) ≡ false }
     ensures { IfOk result (λ text. text.items
-        ≡ compact_text (spec.with_label (tag_of label.entry) (name_of label.entry) (view value))) }
+        ≡ compact_text (spec.with_label (put_back_by label.entry) (view value))) }
 {
     labelled_value(alloc, value, label)?.to_vec(alloc)
 }
 
-// Returns the object with the members of the label: its name as the conversation, and its tag.
+// Returns the object with the members of the label: its name as the conversation, its line and its tag.
 fn labelled_value(alloc: Global, value: Value, label: Label<'_>) -> Result<Value, AllocError>
     ensures { IfOk result (λ labelled. view labelled
-        ≡ spec.with_label (tag_of label.entry) (name_of label.entry) (view value)) }
+        ≡ spec.with_label (put_back_by label.entry) (view value)) }
 {
     match value {
         Value::Object(mut members) => {
             put_text(&mut members, alloc, "conversation", label.name)?;
+            put_number(&mut members, alloc, "line", label.line)?;
             put_text(&mut members, alloc, "tag", label.tag)?;
             Ok(Value::Object(members))
         }
@@ -203,6 +248,22 @@ fn put_text(
             key,
             text_value(Vec::from_slice(alloc, text)?)?,
         ),
+        None => Ok(()),
+    }
+}
+
+// Puts the number under this key, if there is a number.
+fn put_number(
+    members: &mut Map<String, Value>,
+    alloc: Global,
+    key: &str,
+    number: Option<u64>,
+) -> Result<(), AllocError>
+    ensures { OnOk result (members_view members.new.entries
+        ≡ spec.with_number key.now number (members_view members.old.entries)) }
+{
+    match number {
+        Some(number) => put(members, alloc, key, Value::from(number)),
         None => Ok(()),
     }
 }
