@@ -35,7 +35,7 @@ pub struct SessionNames {
 }
 
 impl SessionNames {
-    ghost use Rattle.std.specs.Prelude.{◌≡◌, ℕ, List, None, Some, true, IfOk, IfSome, OnOk, OnErr};
+    ghost use Rattle.std.specs.Prelude.{◌≡◌, ℕ, List, None, Some, true, IfNone, IfOk, IfSome, OnOk, OnErr};
     ghost use Rattle.std.specs.Map.{update};
     ghost use Rattle.std.specs.Str.{bytes_eq};
     ghost use Rattle.scrib_labels.specs.Naming.{IsNumberFor, IsVacant, next_number, number_of};
@@ -57,6 +57,14 @@ impl SessionNames {
         ensures { result ≡ number_of self.now name.now }
     {
         self.numbers.get(name).copied()
+    }
+
+    /// Returns the name that has the number. None exactly where no name has it.
+    pub fn name_of(&self, number: u32) -> Option<&str>
+        ensures named { IfSome result (λ name. number_of self.now name.now ≡ Some number) }
+        ensures vacant { IfNone result (IsVacant self.now number) }
+    {
+        Some(self.names.get(number as usize)?.as_str())
     }
 
     /// Returns the number of the name, where its hash leads to it. None where it has none, and where another name of that
