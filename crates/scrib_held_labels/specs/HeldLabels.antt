@@ -52,8 +52,8 @@ pub record IsHeldPartOf (o : LabelledStyle) (bound : ℕ) (entries : List Labell
   pub begins : out ++ more ≡ part ++ rest
 
 -- An output of a script with labels whose events are held back, none for longer than the bound, and the counts of its
--- events. What is written for an item is what a script with numbers and without tags gives for it, with the name and
--- the tag of its line put back.
+-- events. What is written for an item is what a script with numbers and without tags gives for it, with the label of
+-- its line put back.
 abbrev pub IsHeldLabelledOutput : LabelledStyle → (bound : ℕ) → (input : List ℕ) → Counts → (output : List ℕ) → Type 0
 IsHeldLabelledOutput o bound input counts output =
     (n : ℕ) × (unended : Option LabelledText) × (entries : List LabelledEntry)

@@ -16,7 +16,7 @@ use Rattle.scrib_hold.specs.NumberedItems.{Numbered, LetsOutNumbered}
 use Rattle.scrib_labelled.specs.declared.label_options.LabelledStyle.{LabelledStyle}
 use Rattle.scrib_labelled.specs.LabelledEntries.{LabelledEntry}
 use Rattle.scrib_labelled.specs.LabelledLines.{LineLabel}
-use Rattle.scrib_labelled.specs.LabelledRuns.{IsNumberIn, Naming, Takes, session_name}
+use Rattle.scrib_labelled.specs.LabelledRuns.{IsNumberIn, Naming, Takes, put_back}
 
 -- the entries without their labels
 abbrev pub plain : List LabelledEntry → List Entry
@@ -36,13 +36,13 @@ abbrev pub label_at : List LabelledEntry → (n : ℕ) → LineLabel
 label_at entries n = labels_from 1 entries n
 
 -- The items are carried out one after another, each with the label of its entry: from a state to another, with this
--- output. Each reply has the tag and the name of the label.
+-- output. Each reply has the label.
 abbrev pub Carries : LabelledStyle → (labels : ℕ → LineLabel) → List Numbered → (w v : State) → (output : List ℕ)
     → Type 0
 Carries o labels [] w v output = (v ≡ w) × (output ≡ [])
 Carries o labels (x ∷ numbered) w v output =
     (u : State) × (replies : List Reply) × (first : List ℕ) × (rest : List ℕ)
-    × Takes o (labels x.0).tag (session_name (labels x.0).session) w x.1 u replies first
+    × Takes o (put_back o (labels x.0)) w x.1 u replies first
     × Carries o labels numbered u v rest × (output ≡ first ++ rest)
 
 -- the numbers of names, where that of this session has its number too

@@ -7,7 +7,7 @@ use Rattle.scrib_script_reader.specs.declared.item.Item.{Item}
 use Rattle.scrib_labelled.specs.declared.label_options.LabelledStyle.{LabelledStyle}
 use Rattle.scrib_labelled.specs.CheckedCores as cores
 use Rattle.scrib_labelled.specs.LabelledLines.{LineLabel}
-use Rattle.scrib_labelled.specs.LabelledRuns.{Takes, session_name}
+use Rattle.scrib_labelled.specs.LabelledRuns.{Takes, put_back}
 use Rattle.scrib_held_labels.specs.declared.labelled_sink.LabelledSink.{LabelledSink}
 use Rattle.scrib_held_labels.specs.declared.waiting_labels.KeptLabel.{KeptLabel}
 use Rattle.scrib_held_labels.specs.WaitingLabels.{AreOf, kept_at}
@@ -28,8 +28,7 @@ gathered_in s = s.monitor.gathered.bytes.items
 pub record CarriesLabelled (labels : ℕ → LineLabel) (old new : LabelledSink) (n : ℕ) (i : Item) (more : List ℕ)
     : Type 0 where
   pub replies : List Reply
-  pub takes : Takes (style_of old) (labels n).tag (session_name (labels n).session) (state_of old) i (state_of new)
-      replies more
+  pub takes : Takes (style_of old) (put_back (style_of old) (labels n)) (state_of old) i (state_of new) replies more
 
 -- the same, whatever the labels of the entries are, where those that are kept are among them
 pub record CarriesItem (old new : LabelledSink) (n : ℕ) (i : Item) (more : List ℕ) : Type 0 where

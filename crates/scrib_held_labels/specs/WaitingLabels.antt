@@ -17,10 +17,6 @@ bytes_kept tag = option_map (λ t. t.items) tag
 abbrev pub session_kept : Option KeptSession → Option (List ℕ × ℕ)
 session_kept session = option_map (λ s. (string_bytes s.name, s.number)) session
 
--- its name
-abbrev pub kept_name : Option KeptSession → Option (List ℕ)
-kept_name session = option_map (λ s. string_bytes s.name) session
-
 -- the label without the bytes of its line
 abbrev pub without_text : LineLabel → LineLabel
 without_text label = record label { text = [] }

@@ -46,7 +46,8 @@ impl LabelledSink {
             // a stage lets each entry out once
             return Err(AllocError);
         };
-        self.monitor.take(item, kept.label())?;
+        let label = kept.label(&self.monitor);
+        self.monitor.take(item, label)?;
         self.meet(kept)?;
         self.monitor.gather()
     }

@@ -2,10 +2,12 @@
 
 ghost use Rattle.std.specs.Prelude.{◌≡◌, IfOk, Some, None};
 ghost use Rattle.scrib_labelled.specs.NamedLines.{label_of};
-ghost use Rattle.scrib_report.specs.PutBack.{name_of, tag_of};
+ghost use Rattle.scrib_labelled.specs.LabelledRuns.{put_back, session_name};
+ghost use Rattle.scrib_report.specs.PutBack.{put_back_by};
 ghost use Rattle.scrib_held_labels.specs.WaitingLabels as spec;
 
 use indexmap::IndexMap;
+use scrib_labelled::labelled_monitor::LabelledMonitor;
 use scrib_labelled::line_parts::{LineParts, Session};
 use scrib_report::label::Label;
 use std::alloc::{AllocError, Global};
@@ -40,14 +42,15 @@ impl KeptLabel {
         })
     }
 
-    /// The label that is put back into replies.
-    pub(crate) fn label(&self) -> Label<'_>
-        ensures tag { tag_of result ≡ (spec.label_kept self.now).tag }
-        ensures name { name_of result ≡ spec.kept_name self.now.session }
+    /// The label that this monitor puts back into replies.
+    pub(crate) fn label(&self, monitor: &LabelledMonitor) -> Label<'_>
+        ensures { put_back_by result ≡ put_back monitor.now.style (spec.label_kept self.now) }
     {
         Label {
             tag: bytes_in(&self.tag),
             name: name_in(&self.session),
+            line: monitor.printed(self.line),
+            conversation: None,
         }
     }
 }
@@ -90,7 +93,7 @@ fn bytes_in(tag: &Option<Vec<u8>>) -> Option<&[u8]>
 
 // The bytes of the name, if there is one.
 fn name_in(session: &Option<KeptSession>) -> Option<&[u8]>
-    ensures { spec.bytes_of result ≡ spec.kept_name session.now }
+    ensures { spec.bytes_of result ≡ session_name (spec.session_kept session.now) }
 {
     match session {
         Some(session) => Some(session.name.as_bytes()),

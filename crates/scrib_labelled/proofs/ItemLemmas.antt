@@ -17,7 +17,7 @@ use Rattle.scrib_core.specs.declared.reply.Reply.TheVariants as reply
 use Rattle.scrib_core.specs.declared.step.Step.{Step}
 use Rattle.scrib_core.specs.declared.step.Step.TheVariants as step
 use Rattle.scrib_report.specs.LabelledReplies.{labelled_reply}
-use Rattle.scrib_report.specs.PutBack.{bytes_of}
+use Rattle.scrib_report.specs.PutBack.{ReplyLabel, bytes_of}
 use Rattle.scrib_report.specs.ReplyTexts.{reply_format}
 use Rattle.scrib_script_reader.specs.declared.item.Item.{Item}
 use Rattle.scrib_script_reader.specs.declared.item.Item.TheVariants as item
@@ -32,7 +32,7 @@ use Rattle.scrib_labelled.specs.declared.labelled_monitor.LabelledMonitor.{Label
 use Rattle.scrib_labelled.specs.declared.named_monitor.NamedMonitor.{NamedMonitor}
 use Rattle.scrib_labelled.specs.ExchangeLines.{named_id}
 use Rattle.scrib_labelled.specs.LabelledLines.{LineLabel}
-use Rattle.scrib_labelled.specs.LabelledRuns.{ClosesBehind, Naming, Takes, after_replies, after_reply, session_name}
+use Rattle.scrib_labelled.specs.LabelledRuns.{ClosesBehind, Naming, Takes, after_replies, after_reply, of_step, put_back, session_name}
 use Rattle.scrib_labelled.specs.Behind.{CarriesOut}
 use Rattle.scrib_labelled.specs.Changes.{IsChangeBy, NotesEvent, TakesItem, after_change, change_by}
 
@@ -149,14 +149,22 @@ pub behind_closed : (closes : Bool) (s : Step) (r c : Reply) (u v : State) (id :
 behind_closed false s r c u v id on done closed = absurd (cc)
 behind_closed true s r c u v id on done closed = inr (id, c, done, closed, refl)
 
-module _ (o : LabelledStyle) (tag name : Option (List ℕ)) (f asked : Format) (is : f ≡ reply_format o.format asked) (s : Step) (r : Reply) (w u : State) (answered : IsAnswered w s r u) where
+module _ (o : LabelledStyle) (l : ReplyLabel) (f asked : Format) (is : f ≡ reply_format o.format asked) (s : Step) (r : Reply) (w u : State) (answered : IsAnswered w s r u) where
   -- the step, with nothing behind it
-  pub takes_open : ClosesBehind o.closes s r u u [] → Takes o tag name w (item.Step asked s) u (r ∷ []) (labelled_reply f tag name r)
-  takes_open behind = (r, u, [], answered, behind, refl, ap (λ (g : Format). labelled_reply g tag name r) is ∙ sym (append-nil (labelled_reply (reply_format o.format asked) tag name r)))
+  pub takes_open : ClosesBehind o.closes s r u u [] → Takes o l w (item.Step asked s) u (r ∷ []) (labelled_reply f (of_step l s) r)
+  takes_open behind = (
+    r,
+    u,
+    [],
+    answered,
+    behind,
+    refl,
+    ap (λ (g : Format). labelled_reply g (of_step l s) r) is ∙ sym (append-nil (labelled_reply (reply_format o.format asked) (of_step l s) r)),
+  )
 
   -- the step, with a close behind it
   pub takes_closed : (v : State) (c : Reply) → ClosesBehind o.closes s r u v (c ∷ [])
-      → Takes o tag name w (item.Step asked s) v (r ∷ c ∷ []) (labelled_reply f tag name r ++ labelled_reply f tag name c)
+      → Takes o l w (item.Step asked s) v (r ∷ c ∷ []) (labelled_reply f (of_step l s) r ++ labelled_reply f (of_step l s) c)
   takes_closed v c behind = (
     r,
     u,
@@ -164,8 +172,8 @@ module _ (o : LabelledStyle) (tag name : Option (List ℕ)) (f asked : Format) (
     answered,
     behind,
     refl,
-    ap (λ (g : Format). labelled_reply g tag name r ++ labelled_reply g tag name c) is
-        ∙ ap (λ (t : List ℕ). labelled_reply (reply_format o.format asked) tag name r ++ t) (sym (append-nil (labelled_reply (reply_format o.format asked) tag name c))),
+    ap (λ (g : Format). labelled_reply g (of_step l s) r ++ labelled_reply g (of_step l s) c) is
+        ∙ ap (λ (t : List ℕ). labelled_reply (reply_format o.format asked) (of_step l s) r ++ t) (sym (append-nil (labelled_reply (reply_format o.format asked) (of_step l s) c))),
   )
 
 -- ---- the note of an event
@@ -188,10 +196,10 @@ closes_on true sends e = refl
 pub closes_not_off : {A : Type 0} (closes : Bool) → closes ≡ true → closes ≡ false → A
 closes_not_off closes on off = absurd (cc)
 
-module _ (old new : LabelledMonitor) (tag name : Option (List ℕ)) (id : ℕ) (e : Event) (outcome : Result Noted Refusal) (u : State) (lines : old.style.format ≡ format.Line) (same : new.style ≡ old.style)
+module _ (old new : LabelledMonitor) (l : ReplyLabel) (id : ℕ) (e : Event) (outcome : Result Noted Refusal) (u : State) (lines : old.style.format ≡ format.Line) (same : new.style ≡ old.style)
     (answered : IsAnswered (state_of old.core) (step.Note id e) (note_reply_of id outcome) u) where
   abbrev text : Reply → List ℕ
-  text r = labelled_reply format.Line tag name r
+  text r = labelled_reply format.Line l r
 
   printed : format.Line ≡ reply_format old.style.format format.Line
   printed = ap (λ (f : Format). reply_format f format.Line) (sym lines)
@@ -199,15 +207,15 @@ module _ (old new : LabelledMonitor) (tag name : Option (List ℕ)) (id : ℕ) (
   -- the note, with nothing behind it
   pub notes_open : u ≡ state_of new.core → ClosesBehind old.style.closes (step.Note id e) (note_reply_of id outcome) u u []
       → (old.style.closes ≡ false → GotMemory old.core new.core (note_reply_of id outcome ∷ []))
-      → new.gathered.bytes.items ≡ old.gathered.bytes.items ++ labelled_reply format.Line tag name (note_reply_of id outcome) → NotesEvent old new tag name id e change.Unchanged
+      → new.gathered.bytes.items ≡ old.gathered.bytes.items ++ labelled_reply format.Line l (note_reply_of id outcome) → NotesEvent old new l id e change.Unchanged
   notes_open after behind memory grows = record {
     text = text (note_reply_of id outcome);
     takes = record {
       style = same;
       replies = note_reply_of id outcome ∷ [];
       takes =
-          subst (λ (v : State). Takes old.style tag name (state_of old.core) (item.Step format.Line (step.Note id e)) v (note_reply_of id outcome ∷ []) (text (note_reply_of id outcome))) after
-          (takes_open old.style tag name format.Line format.Line printed (step.Note id e) (note_reply_of id outcome) (state_of old.core) u answered behind);
+          subst (λ (v : State). Takes old.style l (state_of old.core) (item.Step format.Line (step.Note id e)) v (note_reply_of id outcome ∷ []) (text (note_reply_of id outcome))) after
+          (takes_open old.style l format.Line format.Line printed (step.Note id e) (note_reply_of id outcome) (state_of old.core) u answered behind);
       changes = sym (note-changes-nothing id outcome);
       memory = memory;
     };
@@ -217,14 +225,14 @@ module _ (old new : LabelledMonitor) (tag name : Option (List ℕ)) (id : ℕ) (
 
   -- the note, with a close behind it
   pub notes_closed : (r : Reply) (c : Change) → old.style.closes ≡ true → Completes (step.Note id e) (note_reply_of id outcome) u id → IsAnswered u (step.Close id) r (state_of new.core) → c ≡ change_by r → c ≢ change.Opened
-      → new.gathered.bytes.items ≡ old.gathered.bytes.items ++ (labelled_reply format.Line tag name (note_reply_of id outcome) ++ labelled_reply format.Line tag name r) → NotesEvent old new tag name id e c
+      → new.gathered.bytes.items ≡ old.gathered.bytes.items ++ (labelled_reply format.Line l (note_reply_of id outcome) ++ labelled_reply format.Line l r) → NotesEvent old new l id e c
   notes_closed r c on done closed is opens grows = record {
     text = text (note_reply_of id outcome) ++ text r;
     takes = record {
       style = same;
       replies = note_reply_of id outcome ∷ r ∷ [];
       takes =
-          takes_closed old.style tag name format.Line format.Line printed (step.Note id e) (note_reply_of id outcome) (state_of old.core) u answered (state_of new.core) r
+          takes_closed old.style l format.Line format.Line printed (step.Note id e) (note_reply_of id outcome) (state_of old.core) u answered (state_of new.core) r
           (behind_closed old.style.closes (step.Note id e) (note_reply_of id outcome) r u (state_of new.core) id on done closed);
       changes = (refl, note-changes-nothing id outcome, is);
       memory = λ off. closes_not_off old.style.closes on off;
@@ -238,10 +246,18 @@ pub name_back : (name : Option (Bor (List ℕ))) (id : ℕ) → session_name (na
 name_back None id = refl
 name_back (Some n) id = refl
 
+abbrev pub label_with : (tag name : Option (List ℕ)) (line : Option ℕ) → ReplyLabel
+label_with tag name line = record { tag = tag; name = name; line = line; conversation = None }
+
+-- what is put back for a line: its tag, its name, and its number where the style has lines
+pub put_back_is : (o : LabelledStyle) (label : LineLabel) (name : Option (List ℕ)) (line : Option ℕ) → name ≡ session_name label.session → line ≡ cond o.lines (Some label.line) None → label_with label.tag name line ≡ put_back o label
+put_back_is o label name line same-name same-line =
+    ap (λ (n : Option (List ℕ)). label_with label.tag n line) same-name ∙ ap (λ (n : Option ℕ). label_with label.tag (session_name label.session) n) same-line
+
 -- ---- any item
 
 -- the note of a line's event, as the line's item
-pub carries_note : (old new : NamedMonitor) (label : LineLabel) (id : ℕ) (e : Event) (c : Change) → NotesEvent old.monitor new.monitor label.tag (session_name label.session) id e c
+pub carries_note : (old new : NamedMonitor) (label : LineLabel) (id : ℕ) (e : Event) (c : Change) → NotesEvent old.monitor new.monitor (put_back old.monitor.style label) id e c
     → ((name : List ℕ) → number_of new.names name ≡ after_change (number_of old.names) label.session c name) → CarriesOut old new label (item.Step format.Line (step.Note id e))
 carries_note old new label id e c h names = record {
   style = h.takes.style;
@@ -254,14 +270,14 @@ carries_note old new label id e c h names = record {
 }
 
 -- an item that a monitor took, with its names
-pub carries_item : (old new : NamedMonitor) (taken : LabelledMonitor) (label : LineLabel) (i : Item) (c : Change) → TakesItem old.monitor taken label.tag (session_name label.session) i taken.text.items c → taken.gathered ≡ old.monitor.gathered
+pub carries_item : (old new : NamedMonitor) (taken : LabelledMonitor) (label : LineLabel) (i : Item) (c : Change) → TakesItem old.monitor taken (put_back old.monitor.style label) i taken.text.items c → taken.gathered ≡ old.monitor.gathered
     → new.monitor ≡ record taken { gathered = new.monitor.gathered } → new.monitor.gathered.bytes.items ≡ taken.gathered.bytes.items ++ taken.text.items
     → ((name : List ℕ) → number_of new.names name ≡ after_change (number_of old.names) label.session c name) → CarriesOut old new label i
 carries_item old new taken label i c t kept same grows names = record {
   style = ap (λ (m : LabelledMonitor). m.style) same ∙ t.style;
   replies = t.replies;
   more = taken.text.items;
-  takes = subst (λ (m : LabelledMonitor). Takes old.monitor.style label.tag (session_name label.session) (state_of old.monitor.core) i (state_of m.core) t.replies taken.text.items) (sym same) t.takes;
+  takes = subst (λ (m : LabelledMonitor). Takes old.monitor.style (put_back old.monitor.style label) (state_of old.monitor.core) i (state_of m.core) t.replies taken.text.items) (sym same) t.takes;
   named = λ name. names name ∙ replies-change (number_of old.names) label.session t.replies c t.changes name;
   memory = λ off. subst (λ (m : LabelledMonitor). GotMemory old.monitor.core m.core t.replies) (sym same) (t.memory off);
   grows = grows ∙ ap (λ (g : Gathered). g.bytes.items ++ taken.text.items) kept;

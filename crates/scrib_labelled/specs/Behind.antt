@@ -12,7 +12,7 @@ use Rattle.scrib_labelled.specs.CheckedCores.{GotMemory, state_of}
 use Rattle.scrib_labelled.specs.LabelledEntries.{LabelledEntry, items_among}
 use Rattle.scrib_labelled.specs.LabelledLines.{LineLabel}
 use Rattle.scrib_labelled.specs.LabelledQueries.{HadMemory}
-use Rattle.scrib_labelled.specs.LabelledRuns.{Naming, Runs, Takes, after_replies, session_name}
+use Rattle.scrib_labelled.specs.LabelledRuns.{Naming, Runs, Takes, after_replies, put_back}
 
 -- the numbers of names and the state behind a run, and whether a step was refused memory
 pub record Behind : Type 0 where
@@ -82,7 +82,7 @@ pub record CarriesOut (old new : NamedMonitor) (label : LineLabel) (i : Item) : 
   pub style : new.monitor.style ≡ old.monitor.style
   pub replies : List Reply
   pub more : List ℕ
-  pub takes : Takes old.monitor.style label.tag (session_name label.session) (state_of old.monitor.core) i
+  pub takes : Takes old.monitor.style (put_back old.monitor.style label) (state_of old.monitor.core) i
       (state_of new.monitor.core) replies more
   pub named : (name : List ℕ)
       → number_of new.names name ≡ after_replies (number_of old.names) label.session replies name

@@ -7,6 +7,7 @@ use Rattle.scrib_core.specs.declared.format.Format.TheVariants as formats
 use Rattle.scrib_core.specs.declared.reply.Reply.{Reply}
 use Rattle.scrib_core.specs.declared.reply.Reply.TheVariants as reply
 use Rattle.scrib_core.specs.declared.step.Step.TheVariants.{Note}
+use Rattle.scrib_report.specs.PutBack.{ReplyLabel}
 use Rattle.scrib_script_reader.specs.declared.item.Item.{Item}
 use Rattle.scrib_script_reader.specs.declared.item.Item.TheVariants as item
 use Rattle.scrib_labelled.specs.declared.labelled_monitor.Change.{Change}
@@ -27,20 +28,20 @@ IsChangeBy [] c = c ≡ change.Unchanged
 IsChangeBy (r ∷ []) c = c ≡ change_by r
 IsChangeBy (r ∷ q ∷ rs) c = (rs ≡ []) × (change_by r ≡ change.Unchanged) × (c ≡ change_by q)
 
--- the monitor carried the item out with this tag and name, and made this text; this changed
-pub record TakesItem (old new : LabelledMonitor) (tag name : Option (List ℕ)) (i : Item) (text : List ℕ) (c : Change)
+-- the monitor carried the item out with this label, and made this text; this changed
+pub record TakesItem (old new : LabelledMonitor) (l : ReplyLabel) (i : Item) (text : List ℕ) (c : Change)
     : Type 0 where
   pub style : new.style ≡ old.style
   pub replies : List Reply
-  pub takes : Takes old.style tag name (state_of old.core) i (state_of new.core) replies text
+  pub takes : Takes old.style l (state_of old.core) i (state_of new.core) replies text
   pub changes : IsChangeBy replies c
   pub memory : old.style.closes ≡ false → GotMemory old.core new.core replies
 
--- the monitor noted the event, and gathered the replies with this tag and name; this changed, and nothing was opened
-pub record NotesEvent (old new : LabelledMonitor) (tag name : Option (List ℕ)) (id : ℕ) (e : Event) (c : Change)
+-- the monitor noted the event, and gathered the replies with this label; this changed, and nothing was opened
+pub record NotesEvent (old new : LabelledMonitor) (l : ReplyLabel) (id : ℕ) (e : Event) (c : Change)
     : Type 0 where
   pub text : List ℕ
-  pub takes : TakesItem old new tag name (item.Step formats.Line (Note id e)) text c
+  pub takes : TakesItem old new l (item.Step formats.Line (Note id e)) text c
   pub opens : c ≢ change.Opened
   pub grows : new.gathered.bytes.items ≡ old.gathered.bytes.items ++ text
 

@@ -28,7 +28,7 @@ HadMemory o items names after output (takes front old new w v out more label i r
 
 -- the style of a run whose output does not matter, and which closes no conversation because it is complete
 abbrev pub silent_style : LabelOptions → LabelledStyle
-silent_style labels = record { labels = labels; closes = false; format = Line }
+silent_style labels = record { labels = labels; closes = false; format = Line; lines = false }
 
 -- All of a script with labels is carried out, and no step is refused memory: the numbers of names and the state then.
 -- What it would write does not matter.

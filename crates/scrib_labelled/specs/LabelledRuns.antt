@@ -1,5 +1,5 @@
 -- What scripts with tags and names write (this project's own).
-use Rattle.std.specs.Prelude.{◌≡◌, ◌≢◌, ◌⊎◌, ℕ, Bool, true, false, List, [], ◌∷◌, ◌++◌, Option, Some, None, option_map}
+use Rattle.std.specs.Prelude.{◌≡◌, ◌≢◌, ◌⊎◌, ℕ, Bool, true, false, List, [], ◌∷◌, ◌++◌, Option, Some, None, is_some, option_map, if◌then◌else◌}
 use Rattle.std.specs.Map.{update}
 use Rattle.std.specs.Str.{bytes_eq}
 use Rattle.scrib_core.specs.declared.format.Format.{Format}
@@ -7,12 +7,13 @@ use Rattle.scrib_core.specs.declared.reply.Reply.{Reply}
 use Rattle.scrib_core.specs.declared.reply.Reply.TheVariants as reply
 use Rattle.scrib_core.specs.declared.reply.Refusal.TheVariants.{OutOfMemory}
 use Rattle.scrib_core.specs.declared.step.Step.{Step}
-use Rattle.scrib_core.specs.declared.step.Step.TheVariants.{Close}
+use Rattle.scrib_core.specs.declared.step.Step.TheVariants.{Ask, Close, Note, Open, Turn}
 use Rattle.scrib_core.specs.Answers.{State, initial, IsAnswered}
 use Rattle.scrib_script_reader.specs.declared.item.Item.{Item}
 use Rattle.scrib_script_reader.specs.declared.item.Item.TheVariants as item
 use Rattle.scrib_script_reader.specs.Scripts.{lines}
 use Rattle.scrib_report.specs.ReplyTexts.{reply_format}
+use Rattle.scrib_report.specs.PutBack.{ReplyLabel, without_name}
 use Rattle.scrib_report.specs.LabelledReplies.{labelled_bad_line, labelled_end, labelled_reply, labelled_swept}
 use Rattle.scrib_sweep.specs.Sweeps.{IsSwept}
 use Rattle.scrib_closing.specs.ClosingScripts.{Completes}
@@ -36,28 +37,54 @@ ClosesBehind true s r u v replies =
     (((id : ℕ) → Completes s r u id → ⊥) × (replies ≡ []) × (v ≡ u))
     ⊎ ((id : ℕ) × (c : Reply) × Completes s r u id × IsAnswered u (Close id) c v × (replies ≡ c ∷ []))
 
--- what is written for replies, one after another, with this tag and name
-abbrev pub labelled_replies : Format → (tag name : Option (List ℕ)) → List Reply → List ℕ
-labelled_replies o tag name [] = []
-labelled_replies o tag name (r ∷ rs) = labelled_reply o tag name r ++ labelled_replies o tag name rs
+-- the conversation of a step, if it has one
+abbrev pub concerned : Step → Option ℕ
+concerned (Open id name) = Some id
+concerned (Note id e) = Some id
+concerned (Turn id) = Some id
+concerned (Ask id) = Some id
+concerned (Close id) = Some id
+concerned _ = None
 
--- what is written for a sweep with this tag: how many conversations it judged, or the refusal of a turn
-abbrev pub labelled_sweep : Format → (tag : Option (List ℕ)) → Option ℕ → List ℕ
-labelled_sweep o tag (Some judged) = labelled_swept o tag judged
-labelled_sweep o tag None = labelled_reply o tag None (reply.Refused OutOfMemory)
+-- what is put back into the replies to a line with this label: objects have its number where the style has lines
+abbrev pub put_back : LabelledStyle → LineLabel → ReplyLabel
+put_back o label = record {
+  tag = label.tag;
+  name = session_name label.session;
+  line = if o.lines then Some label.line else None;
+  conversation = None;
+}
+
+-- what is put back into the replies to a step: with the number of the line also that of its conversation
+abbrev pub of_step : ReplyLabel → Step → ReplyLabel
+of_step l s = record {
+  tag = l.tag;
+  name = l.name;
+  line = l.line;
+  conversation = if is_some l.line then concerned s else None;
+}
+
+-- what is written for replies, one after another, with this label
+abbrev pub labelled_replies : Format → ReplyLabel → List Reply → List ℕ
+labelled_replies o l [] = []
+labelled_replies o l (r ∷ rs) = labelled_reply o l r ++ labelled_replies o l rs
+
+-- what is written for a sweep with this label: how many conversations it judged, or the refusal of a turn
+abbrev pub labelled_sweep : Format → ReplyLabel → Option ℕ → List ℕ
+labelled_sweep o l (Some judged) = labelled_swept o l judged
+labelled_sweep o l None = labelled_reply o (without_name l) (reply.Refused OutOfMemory)
 
 -- The item is carried out: from a state to another, with these replies and this output. Each reply to the line has the
--- tag and the name, and the format that the line asks for. A sweep makes its turns, and has a reply of its own.
-abbrev pub Takes : LabelledStyle → (tag name : Option (List ℕ)) → State → Item → State → List Reply → List ℕ → Type 0
-Takes o tag name w (item.Step f s) v replies out =
+-- label, and the format that the line asks for. A sweep makes its turns, and has a reply of its own.
+abbrev pub Takes : LabelledStyle → ReplyLabel → State → Item → State → List Reply → List ℕ → Type 0
+Takes o l w (item.Step f s) v replies out =
     (r : Reply) × (u : State) × (later : List Reply) × IsAnswered w s r u × ClosesBehind o.closes s r u v later
-    × (replies ≡ r ∷ later) × (out ≡ labelled_replies (reply_format o.format f) tag name replies)
-Takes o tag name w (item.Sweep f) v replies out =
+    × (replies ≡ r ∷ later) × (out ≡ labelled_replies (reply_format o.format f) (of_step l s) replies)
+Takes o l w (item.Sweep f) v replies out =
     (judged : Option ℕ) × IsSwept w judged v × (replies ≡ [])
-    × (out ≡ labelled_sweep (reply_format o.format f) tag judged)
-Takes o tag name w (item.BadLine n) v replies out =
-    (replies ≡ []) × (v ≡ w) × (out ≡ labelled_bad_line o.format tag n)
-Takes o tag name w item.EndOfText v replies out = (replies ≡ []) × (v ≡ w) × (out ≡ labelled_end o.format tag)
+    × (out ≡ labelled_sweep (reply_format o.format f) l judged)
+Takes o l w (item.BadLine n) v replies out = (replies ≡ []) × (v ≡ w) × (out ≡ labelled_bad_line o.format l n)
+Takes o l w item.EndOfText v replies out = (replies ≡ []) × (v ≡ w) × (out ≡ labelled_end o.format l)
 
 -- the number of a line's name: that of the name, or one that no name has where the name has none
 abbrev pub IsNumberIn : Naming → Option (List ℕ × ℕ) → Type 0
@@ -84,12 +111,12 @@ pub data Runs (o : LabelledStyle) : List (LineLabel × Item) → Naming → Stat
   nothing : (names : Naming) → ((name : List ℕ) → names name ≡ None) → Runs o [] names initial []
   takes : (items : List (LineLabel × Item)) (names after : Naming) (w v : State) (out more : List ℕ)
       (label : LineLabel) (i : Item) (replies : List Reply) → Runs o items names w out
-      → IsNumberIn names label.session → Takes o label.tag (session_name label.session) w i v replies more
+      → IsNumberIn names label.session → Takes o (put_back o label) w i v replies more
       → ((name : List ℕ) → after name ≡ after_replies names label.session replies name)
       → Runs o (items ++ (label, i) ∷ []) after v (out ++ more)
 
 -- An output of a script with labels in a style: its items are carried out. What is written for an item is what a script
--- with numbers and without tags gives for the line that the item's line stands for, with name and tag put back.
+-- with numbers and without tags gives for the line that the item's line stands for, with the label put back.
 abbrev pub IsLabelledOutput : LabelledStyle → (input output : List ℕ) → Type 0
 IsLabelledOutput o input output =
     (n : ℕ) × (unended : Option LabelledText) × (items : List (LineLabel × Item)) × (names : Naming) × (after : State)

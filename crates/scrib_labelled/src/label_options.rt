@@ -22,4 +22,6 @@ pub struct LabelledStyle {
     pub closes: bool,
     /// The format of a reply whose line asks for no other.
     pub format: Format,
+    /// Whether objects have the number of the line that they answer, and refusals the conversation of their step.
+    pub lines: bool,
 }

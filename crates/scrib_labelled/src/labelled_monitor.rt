@@ -1,7 +1,9 @@
 //! Carries out the entries of a script, and gathers their replies with the labels of their lines.
 
 ghost use Rattle.std.specs.Prelude.{◌≡◌};
+ghost use Rattle.scrib_report.specs.PutBack.{put_back_by};
 ghost use Rattle.scrib_labelled.specs.Changes.{change_by};
+ghost use Rattle.scrib_labelled.specs.LabelledRuns.{concerned, of_step};
 
 use crate::checked_core::CheckedCore;
 use crate::label_options::LabelledStyle;
@@ -45,7 +47,7 @@ pub struct LabelledMonitor {
 }
 
 impl LabelledMonitor {
-    ghost use Rattle.std.specs.Prelude.{◌≡◌, ◌≢◌, ◌++◌, ◌&&◌, ℕ, List, [], None, Option, Some, true, false, not, IfOk, IsFalse, IsTrue, MatchOption, OnErr, OnOk};
+    ghost use Rattle.std.specs.Prelude.{◌≡◌, ◌≢◌, ◌++◌, ◌&&◌, ℕ, List, [], None, Option, Some, true, false, not, if◌then◌else◌, IfOk, IsFalse, IsTrue, MatchOption, OnErr, OnOk};
     ghost use Rattle.scrib_core.specs.Answers.{IsAnswered, IsCompleteIn, initial};
     ghost use Rattle.scrib_core.specs.World.{conversation};
     ghost use Rattle.scrib_labelled.specs.CheckedCores.{GotMemory, state_of};
@@ -55,7 +57,7 @@ impl LabelledMonitor {
     ghost use Rattle.scrib_core.specs.declared.step.Step.TheVariants.{Close};
     ghost use Rattle.scrib_report.specs.LabelledReplies.{labelled_reply};
     ghost use Rattle.scrib_report.specs.PutBack as spec;
-    ghost use Rattle.scrib_report.specs.PutBack.{bytes_of, name_of, tag_of};
+    ghost use Rattle.scrib_report.specs.PutBack.{put_back_by, tag_of};
     ghost use Rattle.scrib_report.specs.ReplyTexts.{reply_format};
     ghost use Rattle.scrib_sweep.specs.Sweeps.{IsSwept};
     ghost use Rattle.scrib_script_reader.specs.declared.item.Item.TheVariants as item;
@@ -84,22 +86,30 @@ impl LabelledMonitor {
     /// `AllocError` where there is no memory for the text.
     pub fn take(&mut self, item: Item, label: Label<'_>) -> Result<Change, AllocError>
         ensures ok { IfOk result
-            (TakesItem self.old self.new (tag_of label.entry) (name_of label.entry) item self.new.text.items) }
+            (TakesItem self.old self.new (put_back_by label.entry) item self.new.text.items) }
         ensures same { self.new.gathered ≡ self.old.gathered }
     {
         self.text.clear();
         match item {
             Item::Step(asked, step) => self.push_step(asked, step, label),
-            Item::Sweep(asked) => self.push_sweep(asked, label.tag),
+            Item::Sweep(asked) => self.push_sweep(asked, label),
             Item::BadLine(number) => {
-                push_labelled_bad_line(&mut self.text, number, self.style.format, label.tag)?;
+                push_labelled_bad_line(&mut self.text, number, self.style.format, label)?;
                 Ok(Change::Unchanged)
             }
             Item::EndOfText => {
-                push_labelled_end(&mut self.text, self.style.format, label.tag)?;
+                push_labelled_end(&mut self.text, self.style.format, label)?;
                 Ok(Change::Unchanged)
             }
         }
+    }
+
+    /// Returns the number of a line where objects have it.
+    #[inline(always)]
+    pub fn printed(&self, line: u64) -> Option<u64>
+        ensures { result ≡ (if self.now.style.lines then Some line else None) }
+    {
+        if self.style.lines { Some(line) } else { None }
     }
 
     /// Returns whether the conversation is open.
@@ -119,13 +129,14 @@ impl LabelledMonitor {
         label: Label<'_>,
     ) -> Result<Change, AllocError>
         ensures ok { IfOk result (λ c. (replies : List Reply) × (more : List ℕ)
-            × Takes self.old.style (tag_of label.entry) (name_of label.entry) (state_of self.old.core)
+            × Takes self.old.style (put_back_by label.entry) (state_of self.old.core)
             (item.Step asked step) (state_of self.new.core) replies more × IsChangeBy replies c
             × (self.old.style.closes ≡ false → GotMemory self.old.core self.new.core replies)
             × (self.new.text.items ≡ self.old.text.items ++ more)) }
         ensures same { self.new ≡ record self.old { core = self.new.core; text = self.new.text } }
     {
         let format = reply_format(self.style.format, asked);
+        let label = of_step(label, &step);
         let judged = judged_by(&step);
         let reply = self.core.apply(step);
         push_labelled_reply(&mut self.text, &reply, format, label)?;
@@ -135,20 +146,29 @@ impl LabelledMonitor {
         }
     }
 
-    // Sweeps the stale conversations, and appends the reply with this tag. The line asks for the format `asked`.
-    fn push_sweep(&mut self, asked: Format, tag: Option<&[u8]>) -> Result<Change, AllocError>
+    // Sweeps the stale conversations, and appends the reply with this label. The line asks for the format `asked`.
+    fn push_sweep(&mut self, asked: Format, label: Label<'_>) -> Result<Change, AllocError>
         ensures ok { IfOk result (λ c. (c ≡ change.Unchanged) × (judged : Option ℕ)
             × IsSwept (state_of self.old.core) judged (state_of self.new.core)
             × GotMemory self.old.core self.new.core [] × (self.new.text.items
-            ≡ self.old.text.items ++ labelled_sweep (reply_format self.old.style.format asked) (bytes_of tag.entry) judged)) }
+            ≡ self.old.text.items
+            ++ labelled_sweep (reply_format self.old.style.format asked) (put_back_by label.entry) judged)) }
         ensures same { self.new ≡ record self.old { core = self.new.core; text = self.new.text } }
     {
         let format = reply_format(self.style.format, asked);
         match self.core.sweep(*self.text.allocator()) {
-            Ok(judged) => push_labelled_swept(&mut self.text, judged as u64, format, tag)?,
+            Ok(judged) => push_labelled_swept(&mut self.text, judged as u64, format, label)?,
             Err(_) => {
                 let refused = Reply::Refused(Refusal::OutOfMemory);
-                push_labelled_reply(&mut self.text, &refused, format, Label { tag, name: None })?;
+                push_labelled_reply(
+                    &mut self.text,
+                    &refused,
+                    format,
+                    Label {
+                        name: None,
+                        ..label
+                    },
+                )?;
             }
         }
         Ok(Change::Unchanged)
@@ -178,7 +198,7 @@ impl LabelledMonitor {
         ensures ok { IfOk result (λ c. (r : Reply)
             × IsAnswered (state_of self.old.core) (Close id) r (state_of self.new.core) × (c ≡ change_by r)
             × (self.new.text.items ≡ self.old.text.items
-            ++ labelled_reply format (tag_of label.entry) (name_of label.entry) r)) }
+            ++ labelled_reply format (put_back_by label.entry) r)) }
         ensures opens { IfOk result (λ c. c ≢ change.Opened) }
         ensures same { self.new ≡ record self.old { core = self.new.core; text = self.new.text } }
     {
@@ -203,7 +223,7 @@ impl LabelledMonitor {
         tag_text: &[u8],
     ) -> Result<Change, AllocError>
         requires { tag_text.now ≡ spec.tag_text (tag_of label) }
-        ensures ok { IfOk result (NotesEvent self.old self.new (tag_of label.entry) (name_of label.entry) id event) }
+        ensures ok { IfOk result (NotesEvent self.old self.new (put_back_by label.entry) id event) }
         ensures err { OnErr result (self.new.gathered.bytes.items ≡ self.old.gathered.bytes.items) }
     {
         if !self.prints_lines() {
@@ -225,7 +245,7 @@ impl LabelledMonitor {
         event: SharedEvent,
         label: Label<'_>,
     ) -> Result<Change, AllocError>
-        ensures ok { IfOk result (NotesEvent self.old self.new (tag_of label.entry) (name_of label.entry) id event) }
+        ensures ok { IfOk result (NotesEvent self.old self.new (put_back_by label.entry) id event) }
         ensures err { OnErr result (self.new.gathered.bytes.items ≡ self.old.gathered.bytes.items) }
     {
         let step = Step::Note { id, event };
@@ -255,7 +275,7 @@ impl LabelledMonitor {
         requires tag { tag_text.now ≡ spec.tag_text (tag_of label) }
         requires lines { self.old.style.format ≡ format.Line }
         requires closes { self.old.style.closes ≡ true }
-        ensures ok { IfOk result (NotesEvent self.old self.new (tag_of label.entry) (name_of label.entry) id event) }
+        ensures ok { IfOk result (NotesEvent self.old self.new (put_back_by label.entry) id event) }
         ensures err { OnErr result (self.new.gathered.bytes.items ≡ self.old.gathered.bytes.items) }
     {
         match self.core.core.note_and_test(id, event) {
@@ -286,8 +306,8 @@ impl LabelledMonitor {
         ensures ok { IfOk result (λ c. (r : Reply)
             × IsAnswered (state_of self.old.core) (Close id) r (state_of self.new.core) × (c ≡ change_by r)
             × (self.new.gathered.bytes.items ≡ self.old.gathered.bytes.items
-            ++ (labelled_reply format.Line (tag_of label.entry) (name_of label.entry) (note_reply_of id (Ok noted))
-            ++ labelled_reply format.Line (tag_of label.entry) (name_of label.entry) r))) }
+            ++ (labelled_reply format.Line (put_back_by label.entry) (note_reply_of id (Ok noted))
+            ++ labelled_reply format.Line (put_back_by label.entry) r))) }
         ensures opens { IfOk result (λ c. c ≢ change.Opened) }
         ensures style { self.new.style ≡ self.old.style }
         ensures err { OnErr result (self.new.gathered.bytes.items ≡ self.old.gathered.bytes.items) }
@@ -318,7 +338,7 @@ impl LabelledMonitor {
         ensures core { self.new.core ≡ self.old.core }
         ensures style { self.new.style ≡ self.old.style }
         ensures ok { OnOk result (self.new.gathered.bytes.items ≡ self.old.gathered.bytes.items
-            ++ labelled_reply format.Line (tag_of label.entry) (name_of label.entry) (note_reply_of id noted)) }
+            ++ labelled_reply format.Line (put_back_by label.entry) (note_reply_of id noted)) }
         ensures err { OnErr result (self.new.gathered.bytes.items ≡ self.old.gathered.bytes.items) }
     {
         match noted {
@@ -345,7 +365,7 @@ impl LabelledMonitor {
         ensures core { self.new.core ≡ self.old.core }
         ensures style { self.new.style ≡ self.old.style }
         ensures ok { OnOk result (self.new.gathered.bytes.items ≡ self.old.gathered.bytes.items
-            ++ labelled_reply format.Line (tag_of label.entry) (name_of label.entry) reply.now) }
+            ++ labelled_reply format.Line (put_back_by label.entry) reply.now) }
         ensures err { OnErr result (self.new.gathered.bytes.items ≡ self.old.gathered.bytes.items) }
     {
         self.text.clear();
@@ -383,5 +403,33 @@ fn change_by(reply: &Reply) -> Change
         Reply::Opened { .. } => Change::Opened,
         Reply::Closed { .. } => Change::Closed,
         _ => Change::Unchanged,
+    }
+}
+
+// Returns the label of the replies to the step: with the number of the line also that of its conversation.
+fn of_step<'a>(label: Label<'a>, step: &Step) -> Label<'a>
+    ensures { put_back_by result ≡ of_step (put_back_by label.entry) step.now }
+{
+    let conversation = match label.line {
+        Some(_) => concerned(step),
+        None => None,
+    };
+    Label {
+        conversation,
+        ..label
+    }
+}
+
+/// Returns the conversation of the step, if it has one.
+pub fn concerned(step: &Step) -> Option<u32>
+    ensures { result ≡ concerned step.now }
+{
+    match step {
+        Step::Put { .. } | Step::Withdraw { .. } | Step::Profile { .. } => None,
+        Step::Open { id, .. }
+        | Step::Note { id, .. }
+        | Step::Turn { id }
+        | Step::Ask { id }
+        | Step::Close { id } => Some(*id),
     }
 }

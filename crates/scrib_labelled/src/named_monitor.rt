@@ -15,9 +15,11 @@ use std::io::Write;
 
 /// A monitor, and the numbers that stand for the names of its conversations.
 #[derive(Drop)]
-pub(crate) struct NamedMonitor {
-    pub(crate) names: SessionNames,
-    pub(crate) monitor: LabelledMonitor,
+pub struct NamedMonitor {
+    /// The numbers that stand for names.
+    pub names: SessionNames,
+    /// The monitor.
+    pub monitor: LabelledMonitor,
 }
 
 impl NamedMonitor {
@@ -37,7 +39,7 @@ impl NamedMonitor {
     ghost use Rattle.scrib_labelled.specs.declared.labelled_monitor.Change.TheVariants as change;
 
     /// Returns a new monitor, without names.
-    pub(crate) fn new(alloc: Global, style: LabelledStyle) -> NamedMonitor
+    pub fn new(alloc: Global, style: LabelledStyle) -> NamedMonitor
         ensures state { state_of result.monitor.core ≡ initial }
         ensures style { result.monitor.style ≡ style }
         ensures names { (name : List ℕ) → number_of result.names name ≡ None }
@@ -48,9 +50,11 @@ impl NamedMonitor {
         }
     }
 
-    // Carries the item of a line with this label out, and gathers its output. Where there is no memory for its text or
-    // its name, nothing is gathered.
-    fn carry_out(&mut self, item: Item, parts: LineParts<'_>) -> Result<(), AllocError>
+    /// Carries the item of a line with this label out, and gathers its output.
+    ///
+    /// # Errors
+    /// `AllocError` where there is no memory for its text or its name. Nothing is gathered then.
+    pub fn carry_out(&mut self, item: Item, parts: LineParts<'_>) -> Result<(), AllocError>
         requires { IsNumbersOf self.old.names (session_of parts.session) }
         ensures ok { OnOk result (CarriesOut self.old self.new (label_of parts.entry) item) }
         ensures err { OnErr result
@@ -63,6 +67,8 @@ impl NamedMonitor {
         let label = Label {
             tag: parts.tag,
             name,
+            line: self.monitor.printed(parts.line),
+            conversation: None,
         };
         let change = self.monitor.take(item, label)?;
         if let Some(session) = parts.session {
@@ -71,9 +77,12 @@ impl NamedMonitor {
         self.monitor.gather()
     }
 
-    // Notes the event of a line, and gathers its replies. Where there is no memory for the text, nothing is gathered.
+    /// Notes the event of a line, and gathers its replies.
+    ///
+    /// # Errors
+    /// `AllocError` where there is no memory for the text. Nothing is gathered then.
     #[inline(always)]
-    fn note_line(&mut self, line: ExchangeLine<'_>) -> Result<(), AllocError>
+    pub fn note_line(&mut self, line: ExchangeLine<'_>) -> Result<(), AllocError>
         requires tag { line.tag_text.now ≡ tag_text (bytes_of line.tag) }
         requires numbers { IsNumbersOf self.old.names (exchange_label line).session }
         ensures ok { OnOk result (CarriesOut self.old self.new (exchange_label line.entry)
@@ -82,6 +91,7 @@ impl NamedMonitor {
             (self.new.monitor.gathered.bytes.items ≡ self.old.monitor.gathered.bytes.items) }
     {
         let ExchangeLine {
+            line: number,
             tag,
             tag_text,
             name,
@@ -89,7 +99,13 @@ impl NamedMonitor {
             event,
             ..
         } = line;
-        let change = self.monitor.note(id, event, Label { tag, name }, tag_text)?;
+        let label = Label {
+            tag,
+            name,
+            line: self.monitor.printed(number),
+            conversation: None,
+        };
+        let change = self.monitor.note(id, event, label, tag_text)?;
         match change {
             Change::Closed => self.forget(name),
             Change::Opened | Change::Unchanged => {}

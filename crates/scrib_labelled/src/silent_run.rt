@@ -35,6 +35,7 @@ pub(crate) fn run_silently<R: Read>(
         labels,
         closes: false,
         format: Format::Line,
+        lines: false,
     };
     let monitor = NamedMonitor::new(alloc, style);
     let mut run = LabelledRun::new(alloc, labels, Limits::of_scripts(), monitor);

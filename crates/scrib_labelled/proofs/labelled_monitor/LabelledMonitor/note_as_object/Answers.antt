@@ -4,7 +4,7 @@ use Rattle.scrib_core.specs.declared.reply.Reply.{Reply}
 use Rattle.scrib_core.specs.declared.step.Step.TheVariants.{Note}
 use Rattle.scrib_cli.specs.declared.gathered.Gathered.{Gathered}
 use Rattle.scrib_script_reader.specs.declared.item.Item.TheVariants as item
-use Rattle.scrib_report.specs.PutBack.{name_of, tag_of}
+use Rattle.scrib_report.specs.PutBack.{put_back_by}
 use Rattle.scrib_labelled.specs.declared.labelled_monitor.LabelledMonitor.{LabelledMonitor}
 use Rattle.scrib_labelled.specs.CheckedCores.{state_of}
 use Rattle.scrib_labelled.specs.Changes.{IsChangeBy, TakesItem}
@@ -19,7 +19,7 @@ returns-clause-ok c =
     record {
       text = c.take.new.self.text.items;
       takes =
-          subst (λ (m : LabelledMonitor). TakesItem old m (tag_of c.args.label) (name_of c.args.label) (item.Step format.Line (Note c.args.id c.args.event)) c.take.new.self.text.items c.in_ok-change.change) (sym c.gather.ensures.same)
+          subst (λ (m : LabelledMonitor). TakesItem old m (put_back_by c.args.label) (item.Step format.Line (Note c.args.id c.args.event)) c.take.new.self.text.items c.in_ok-change.change) (sym c.gather.ensures.same)
           (record { style = took.style; replies = took.replies; takes = took.takes; changes = took.changes; memory = took.memory });
       opens = note_opens old.style.closes (state_of old.core) took.takes.1 (state_of c.take.new.self.core) c.args.id c.args.event took.takes.0 c.in_ok-change.change took.takes.2 took.takes.3 took.takes.4 by;
       grows = c.in_ok-gather.ensures.ok ∙ ap (λ (g : Gathered). g.bytes.items ++ c.take.new.self.text.items) c.in_ok-change.ensures.same;

@@ -1,6 +1,6 @@
 use Rattle.std.proofs.Common.{◌∙◌, ◌++◌, ℕ, List, [], ap, refl, subst, sym}
 use Rattle.std.proofs.lemmas.Result.{IfOk-weaker}
-use Rattle.scrib_report.specs.PutBack.{name_of, tag_of}
+use Rattle.scrib_report.specs.PutBack.{put_back_by}
 use Rattle.scrib_report.specs.ReplyTexts.{reply_format}
 use Rattle.scrib_script_reader.specs.declared.item.Item.{Item}
 use Rattle.scrib_script_reader.specs.declared.item.Item.TheVariants as item
@@ -12,8 +12,7 @@ use Rattle.scrib_labelled.proofs.labelled_monitor.LabelledMonitor.take.Goals as 
 pub returns-in-Step-clause-ok : goal.returns-in-Step-clause-ok
 returns-in-Step-clause-ok c =
     let o = c.args.self.now.style in
-    let tag = tag_of c.args.label in
-    let name = name_of c.args.label in
+    let l = put_back_by c.args.label in
     let w = state_of c.args.self.now.core in
     let u = state_of c.push_step.new.self.core in
     let step = item.Step c.in-Step.asked c.in-Step.step in
@@ -22,8 +21,8 @@ returns-in-Step-clause-ok c =
       style = ap (λ (m : LabelledMonitor). m.style) c.push_step.ensures.same;
       replies = k.0;
       takes =
-          subst (λ (i : Item). Takes o tag name w i u k.0 c.push_step.new.self.text.items) (sym c.in-Step.is)
-          (subst (λ (t : List ℕ). Takes o tag name w step u k.0 t) (sym (k.5 ∙ ap (λ (t : List ℕ). t ++ k.1) c.clear.ensures.items)) k.2);
+          subst (λ (i : Item). Takes o l w i u k.0 c.push_step.new.self.text.items) (sym c.in-Step.is)
+          (subst (λ (t : List ℕ). Takes o l w step u k.0 t) (sym (k.5 ∙ ap (λ (t : List ℕ). t ++ k.1) c.clear.ensures.items)) k.2);
       changes = k.3;
       memory = k.4;
     })
@@ -32,8 +31,7 @@ returns-in-Step-clause-ok c =
 pub returns-in-Sweep-clause-ok : goal.returns-in-Sweep-clause-ok
 returns-in-Sweep-clause-ok c =
     let o = c.args.self.now.style in
-    let tag = tag_of c.args.label in
-    let name = name_of c.args.label in
+    let l = put_back_by c.args.label in
     let w = state_of c.args.self.now.core in
     let u = state_of c.push_sweep.new.self.core in
     IfOk-weaker c.push_sweep.result _ _
@@ -41,8 +39,8 @@ returns-in-Sweep-clause-ok c =
       style = ap (λ (m : LabelledMonitor). m.style) c.push_sweep.ensures.same;
       replies = [];
       takes =
-          subst (λ (i : Item). Takes o tag name w i u [] c.push_sweep.new.self.text.items) (sym c.in-Sweep.is)
-          (k.1, k.2, refl, k.4 ∙ ap (λ (t : List ℕ). t ++ labelled_sweep (reply_format o.format c.in-Sweep.asked) tag k.1) c.clear.ensures.items);
+          subst (λ (i : Item). Takes o l w i u [] c.push_sweep.new.self.text.items) (sym c.in-Sweep.is)
+          (k.1, k.2, refl, k.4 ∙ ap (λ (t : List ℕ). t ++ labelled_sweep (reply_format o.format c.in-Sweep.asked) l k.1) c.clear.ensures.items);
       changes = k.0;
       memory = λ open_ones. k.3;
     })
