@@ -1,0 +1,6 @@
+mod CountLemmas
+mod StaleLemmas
+mod ListLemmas
+mod MonitorLemmas
+mod StageLemmas
+mod OutputLemmas

@@ -1,0 +1,5 @@
+pub mod Edits
+pub mod SweptRuns
+pub mod SweptScripts
+pub mod StaleLists
+pub mod SweepingMonitors
