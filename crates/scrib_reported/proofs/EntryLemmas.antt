@@ -13,9 +13,11 @@ use Rattle.scrib_labelled.specs.LabelledLines.{LineLabel}
 use Rattle.scrib_labelled.specs.LabelledRuns.{IsNumberIn}
 use Rattle.scrib_labelled.specs.NamedLines.{IsNumbersOf}
 use Rattle.scrib_labelled.specs.Stages.{FailsEntry, TakesEnd, TakesEntry}
+use Rattle.scrib_summary.specs.declared.summary.Summary.{Summary}
+use Rattle.scrib_summary.specs.Summaries.{no_replies}
 use Rattle.scrib_reported.specs.declared.reporting_monitor.ReportingMonitor.{ReportingMonitor}
 use Rattle.scrib_reported.specs.Kept.{nothing_kept}
-use Rattle.scrib_reported.specs.Monitors.{BeginsOutput, CarriesOut, Ran, RanEntries, gathered_by, kept_in, state_in}
+use Rattle.scrib_reported.specs.Monitors.{BeginsOutput, CarriesOut, Ran, RanEntries, counted_in, gathered_by, kept_in, state_in}
 use Rattle.scrib_reported.specs.ReportedRuns.{ReportedRuns, nothing, takes}
 use Rattle.scrib_reported.specs.StageLaws.{ran_begins}
 
@@ -50,7 +52,9 @@ ran : (o : LabelledStyle) (old new : ReportingMonitor) (label : LineLabel) (i : 
 ran o old new label i c is number items out r = subst (λ (o : LabelledStyle). Ran o items old out → Ran o (items ++ (label, i) ∷ []) new (out ++ c.more)) is here r
   where
     here : Ran old.style items old out → Ran old.style (items ++ (label, i) ∷ []) new (out ++ c.more)
-    here r = takes items (number_of old.names) (number_of new.names) (kept_in old) (kept_in new) (state_in old) (state_in new) out c.more label i c.replies r number c.carries c.named
+    here r =
+        subst (λ (s : Summary). ReportedRuns old.style (items ++ (label, i) ∷ []) (number_of new.names) (kept_in new) (state_in new) s (out ++ c.more)) (sym c.counted)
+        (takes items (number_of old.names) (number_of new.names) (kept_in old) (kept_in new) (state_in old) (state_in new) (counted_in old) out c.more label i c.replies r number c.carries c.named)
 
 -- an entry with an item was carried out
 pub takes_item : (old new : ReportingMonitor) (label : LineLabel) (i : Item) → IsNumbersOf old.names label.session → CarriesOut old new label i → TakesEntry RanEntries gathered_by old new label (entry.Item i)
@@ -93,5 +97,9 @@ takes_end now = record {
 }
 
 -- a new monitor has carried nothing out
-pub ran_nothing : (m : ReportingMonitor) → ((name : List ℕ) → number_of m.names name ≡ None) → ((id : ℕ) → kept_in m id ≡ nothing_kept) → state_in m ≡ initial → RanEntries m m [] []
-ran_nothing m names kept state = (refl, subst (λ (w : State). ReportedRuns m.style [] (number_of m.names) (kept_in m) w []) (sym state) (nothing (number_of m.names) (kept_in m) names kept))
+pub ran_nothing : (m : ReportingMonitor) → ((name : List ℕ) → number_of m.names name ≡ None) → ((id : ℕ) → kept_in m id ≡ nothing_kept) → state_in m ≡ initial → counted_in m ≡ no_replies → RanEntries m m [] []
+ran_nothing m names kept state counted = (
+  refl,
+  subst (λ (w : State). ReportedRuns m.style [] (number_of m.names) (kept_in m) w (counted_in m) []) (sym state)
+      (subst (λ (s : Summary). ReportedRuns m.style [] (number_of m.names) (kept_in m) initial s []) (sym counted) (nothing (number_of m.names) (kept_in m) names kept)),
+)

@@ -1,11 +1,15 @@
 -- What is kept of conversations behind one change or two.
 use Rattle.std.proofs.Common.{◌≡◌, ℕ, ◌-◌, Bool, true, false, cond, List, [], ◌∷◌, ◌++◌, Option, Some, None, nat_eq, refl, sym, ap, subst, ◌∙◌, eq-eqb}
-use Rattle.std.specs.Prelude.{slice_get, unwrap_or}
-use Rattle.std.specs.Map.{lookup}
+use Rattle.std.specs.Prelude.{option_map, slice_get, unwrap_or}
+use Rattle.std.specs.Map.{lookup, values_of}
+use Rattle.std.specs.Cmp.{nat_eq_equiv}
 use Rattle.std.proofs.lemmas.Bool.Decides.{Decides-eqb}
-use Rattle.scrib_findings.specs.declared.finding.ReportedOffence.{ReportedOffence}
+use Rattle.std.proofs.lemmas.Map.Entries.{lookup_from_place}
+use Rattle.std.proofs.lemmas.Option.{slice_get-map}
+use Rattle.indexmap.specs.IndexMap.{IndexMap, IsUnique, with_value_at}
+use Rattle.indexmap.proofs.CallerLemmas.{updates-with_value_at}
 use Rattle.scrib_reported.specs.declared.kept.KeptConversation.{KeptConversation}
-use Rattle.scrib_reported.specs.Kept.{IsKept, Keeping, kept_or_nothing, line_at, nothing_kept, with_line}
+use Rattle.scrib_reported.specs.Kept.{IsKept, Keeping, kept_or_nothing, line_at, with_line}
 use Rattle.scrib_reported.specs.ReportedReplies.{IsKeptOf, kept_of}
 
 itself : (id : ℕ) → nat_eq id id ≡ true
@@ -73,3 +77,27 @@ line_added old new id line k lines there is written =
     let now : record { lines = lines; offence = k.offence } ≡ with_line (kept_by old id) line =
     ap (λ (l : List ℕ). record { lines = l; offence = k.offence }) is ∙ ap (λ (o : Option KeptConversation). with_line (kept_or_nothing o) line) (sym there) in
     subst (λ (x : KeptConversation). IsKept (kept_by old) id x (kept_by new)) now (kept_entry old new id (record { lines = lines; offence = k.offence }) written)
+
+-- what the place of a conversation has is kept of the conversation
+there_at : {S : Type 0} (m : IndexMap ℕ KeptConversation S) (at id : ℕ) (k kept : KeptConversation) → slice_get m.entries at ≡ Some (id, kept) → IsUnique nat_eq m
+    → Some k ≡ slice_get (values_of m.entries) at → lookup (nat_eq id) m.entries ≡ Some k
+there_at m at id k kept p unique read =
+    let here : slice_get (values_of m.entries) at ≡ Some kept = slice_get-map (λ (e : ℕ × KeptConversation). e.1) m.entries at ∙ ap (option_map (λ (e : ℕ × KeptConversation). e.1)) p in
+    lookup_from_place nat_eq_equiv m.entries at id kept unique p ∙ sym here ∙ sym read
+
+-- a line was added at the place of a conversation
+pub line_added_at : {S : Type 0} (m : IndexMap ℕ KeptConversation S) (at id line : ℕ) (k kept : KeptConversation) (lines : List ℕ) → slice_get m.entries at ≡ Some (id, kept) → IsUnique nat_eq m
+    → Some k ≡ slice_get (values_of m.entries) at → lines ≡ k.lines ++ line ∷ []
+    → IsKept (kept_by m.entries) id (with_line (kept_by m.entries id) line) (kept_by (with_value_at m at (record { lines = lines; offence = k.offence })).entries)
+line_added_at m at id line k kept lines p unique read is =
+    line_added m.entries (with_value_at m at w).entries id line k lines (there_at m at id k kept p unique read) is written
+  where
+    w : KeptConversation
+    w = record { lines = lines; offence = k.offence }
+
+    by : (i : ℕ) (b : Bool) → nat_eq id i ≡ b → lookup (nat_eq i) (with_value_at m at w).entries ≡ cond b (Some w) (lookup (nat_eq i) m.entries)
+    by i true e = subst (λ (n : ℕ). lookup (nat_eq n) (with_value_at m at w).entries ≡ Some w) (same_id id i e) (updates-with_value_at m at w nat_eq_equiv unique id kept p).1
+    by i false e = (updates-with_value_at m at w nat_eq_equiv unique id kept p).2 i e
+
+    written : IsWritten m.entries (with_value_at m at w).entries id (Some w)
+    written i = by i (nat_eq id i) refl

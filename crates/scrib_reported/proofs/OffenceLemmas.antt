@@ -1,5 +1,5 @@
 -- The offences of records whose verdict is not stale.
-use Rattle.std.proofs.Common.{◌≡◌, ℕ, ◌+◌, ◌<◌, List, [], ◌∷◌, ◌++◌, length, take, Option, Some, None, inl, inr, refl, sym, ap, subst, ◌∙◌, arith, length-append, append_assoc}
+use Rattle.std.proofs.Common.{◌≡◌, ℕ, ◌<◌, List, [], ◌∷◌, ◌++◌, length, take, Option, Some, None, inl, inr, refl, sym, ap, subst, ◌∙◌, arith, length-append, append_assoc}
 use Rattle.std.specs.Option.{option_map}
 use Rattle.std.proofs.Math.Seq.{take-append_seam}
 use Rattle.std.proofs.lemmas.Bool.{cases_lt}
@@ -15,9 +15,9 @@ use Rattle.scrib_tree.specs.declared.tree.ModuleTree.{ModuleTree}
 use Rattle.scrib_record.specs.declared.version.Version.{Version}
 use Rattle.scrib_record.specs.Stale.{Recorded}
 use Rattle.scrib_record.specs.Versions.{meaning_of}
-use Rattle.scrib_library.specs.Modules.{IsMeaning, Means}
+use Rattle.scrib_library.specs.Modules.{IsMeaning}
 use Rattle.scrib_library.proofs.MeaningLemmas.{means_once}
-use Rattle.scrib_core.specs.World.{Conversation, conversation}
+use Rattle.scrib_core.specs.World.{Conversation}
 use Rattle.scrib_core.specs.Marks.{IsStale}
 use Rattle.scrib_core.specs.Answers.{IsFresh, IsReportedIn}
 use Rattle.scrib_core.specs.FreshRecords.{FindsFreshRecord, IsFreshRecord}

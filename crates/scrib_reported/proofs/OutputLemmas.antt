@@ -16,10 +16,12 @@ use Rattle.scrib_labelled.specs.declared.label_options.LabelOptions.{LabelOption
 use Rattle.scrib_labelled.specs.declared.label_options.LabelledStyle.{LabelledStyle}
 use Rattle.scrib_labelled.specs.LabelledEntries.{SpellsLabelledEntries, all_entries, items_among, no_line}
 use Rattle.scrib_labelled.specs.Readings.{Beginning, IsPartOf, IsWholeOf, ReadingFails, ReadingSucceeds}
+use Rattle.scrib_summary.specs.declared.summary.Summary.{Summary}
+use Rattle.scrib_summary.specs.Summaries.{no_replies}
 use Rattle.scrib_reported.specs.declared.reporting_monitor.ReportingMonitor.{ReportingMonitor}
 use Rattle.scrib_reported.specs.Kept.{nothing_kept}
-use Rattle.scrib_reported.specs.Monitors.{BeginsOutput, RanEntries, kept_in, state_in}
-use Rattle.scrib_reported.specs.ReportedRuns.{IsReportedOutput, IsReportedPart, ReportedRuns, nothing}
+use Rattle.scrib_reported.specs.Monitors.{BeginsOutput, RanEntries, counted_in, kept_in, state_in}
+use Rattle.scrib_reported.specs.ReportedRuns.{IsReportedOutput, IsReportedPart, IsTotal, ReportedRuns, nothing}
 
 -- the style of a reading into a new monitor
 pub record IsNewReading (o : LabelledStyle) (m : Limits) (b : Beginning ReportingMonitor) : Type 0 where
@@ -29,17 +31,41 @@ pub record IsNewReading (o : LabelledStyle) (m : Limits) (b : Beginning Reportin
 
 module _ (o : LabelledStyle) (m : Limits) (b : Beginning ReportingMonitor) (new : IsNewReading o m b) where
   -- what a whole run gave is an output
-  whole_output : (after : ReportingMonitor) (input out : List ℕ) → IsWholeOf RanEntries b after input out → IsReportedOutput o input out
-  whole_output after input out h = (
+  whole_output : (after : ReportingMonitor) (input out : List ℕ) (total : Summary) → IsTotal (state_in after) (counted_in after) total → IsWholeOf RanEntries b after input out → IsReportedOutput o input out total
+  whole_output after input out total t h = (
     h.0,
     h.1,
     h.2,
     number_of after.names,
     kept_in after,
     state_in after,
+    counted_in after,
     subst (λ (l : LabelOptions). SpellsLabelledEntries l (lines input) h.0 h.1 h.2) new.labels h.3,
-    subst (λ (s : LabelledStyle). ReportedRuns s (items_among (all_entries h.1 h.2)) (number_of after.names) (kept_in after) (state_in after) out) new.style h.4.1,
+    subst (λ (s : LabelledStyle). ReportedRuns s (items_among (all_entries h.1 h.2)) (number_of after.names) (kept_in after) (state_in after) (counted_in after) out) new.style h.4.1,
+    t,
   )
+
+  -- and a part of one
+  whole_part : (after : ReportingMonitor) (input out : List ℕ) → IsWholeOf RanEntries b after input out → IsReportedPart o input out
+  whole_part after input out h = record {
+    first = lines input;
+    later = [];
+    is = sym (append-nil (lines input));
+    number = h.0;
+    unended = h.1;
+    entries = h.2;
+    spells = subst (λ (l : LabelOptions). SpellsLabelledEntries l (lines input) h.0 h.1 h.2) new.labels h.3;
+    taken = all_entries h.1 h.2;
+    these = inr (refl, refl);
+    names = number_of after.names;
+    kept = kept_in after;
+    after = state_in after;
+    counted = counted_in after;
+    output = out;
+    runs = subst (λ (s : LabelledStyle). ReportedRuns s (items_among (all_entries h.1 h.2)) (number_of after.names) (kept_in after) (state_in after) (counted_in after) out) new.style h.4.1;
+    rest = [];
+    begins = sym (append-nil out);
+  }
 
   -- a part of what a monitor gives for a script is one of an output
   part_of : (input out : List ℕ) → IsPartOf BeginsOutput b input out → IsReportedPart o input out
@@ -56,8 +82,9 @@ module _ (o : LabelledStyle) (m : Limits) (b : Beginning ReportingMonitor) (new 
     names = p.part.names;
     kept = p.part.kept;
     after = p.part.after;
+    counted = p.part.counted;
     output = p.part.output;
-    runs = subst (λ (s : LabelledStyle). ReportedRuns s (items_among p.entries) p.part.names p.part.kept p.part.after p.part.output) new.style p.part.runs;
+    runs = subst (λ (s : LabelledStyle). ReportedRuns s (items_among p.entries) p.part.names p.part.kept p.part.after p.part.counted p.part.output) new.style p.part.runs;
     rest = p.part.rest;
     begins = p.part.begins;
   }
@@ -74,32 +101,12 @@ module _ (o : LabelledStyle) (m : Limits) (b : Beginning ReportingMonitor) (new 
     names = p.4.names;
     kept = p.4.kept;
     after = p.4.after;
+    counted = p.4.counted;
     output = p.4.output;
-    runs = subst (λ (s : LabelledStyle). ReportedRuns s (items_among (all_entries p.1 p.2)) p.4.names p.4.kept p.4.after p.4.output) new.style p.4.runs;
+    runs = subst (λ (s : LabelledStyle). ReportedRuns s (items_among (all_entries p.1 p.2)) p.4.names p.4.kept p.4.after p.4.counted p.4.output) new.style p.4.runs;
     rest = p.4.rest;
     begins = p.4.begins;
   }
-
--- all of an output is a part of it
-part_whole : (o : LabelledStyle) (input output : List ℕ) → IsReportedOutput o input output → IsReportedPart o input output
-part_whole o input output h = record {
-  first = lines input;
-  later = [];
-  is = sym (append-nil (lines input));
-  number = h.0;
-  unended = h.1;
-  entries = h.2;
-  spells = h.6;
-  taken = all_entries h.1 h.2;
-  these = inr (refl, refl);
-  names = h.3;
-  kept = h.4;
-  after = h.5;
-  output = output;
-  runs = h.7;
-  rest = [];
-  begins = sym (append-nil output);
-}
 
 -- nothing is a part of each output
 part_nothing : (o : LabelledStyle) (input : List ℕ) → IsReportedPart o input []
@@ -116,6 +123,7 @@ part_nothing o input = record {
   names = λ name. None;
   kept = λ id. nothing_kept;
   after = initial;
+  counted = no_replies;
   output = [];
   runs = nothing (λ name. None) (λ id. nothing_kept) (λ name. refl) (λ id. refl);
   rest = [];
@@ -134,24 +142,24 @@ pub written_fault : {T : Type 0} (r : Result T ScriptFault) → IfErr r (λ e. e
 written_fault (Ok x) h = tt
 written_fault (Err e) h = ap of_script h
 
--- all of an output was written
-abbrev pub WritesOutput : LabelledStyle → Option (List ℕ) → Option (List ℕ) → Option (List ℕ) → Type 0
-WritesOutput o r old new = IfSome r (λ input. (output : List ℕ) × IsReportedOutput o input output × Appends old new output)
+-- all of an output was written, and this is what the script comes to
+abbrev pub WritesOutput : LabelledStyle → Option (List ℕ) → Option (List ℕ) → Option (List ℕ) → Summary → Type 0
+WritesOutput o r old new total = IfSome r (λ input. (output : List ℕ) × IsReportedOutput o input output total × Appends old new output)
 
 -- a part of one was written
 abbrev pub WritesPart : LabelledStyle → Option (List ℕ) → Option (List ℕ) → Option (List ℕ) → Type 0
 WritesPart o r old new = IfSome r (λ input. (part : List ℕ) × IsReportedPart o input part × Appends old new part)
 
 -- a flush keeps what was written
-pub flushed : (o : LabelledStyle) (m : Limits) (b : Beginning ReportingMonitor) (after : ReportingMonitor) (r was mid now : Option (List ℕ)) → IsNewReading o m b → ReadingSucceeds RanEntries b after r was mid → Keeps mid now → WritesOutput o r was now
-flushed o m b after None was mid now new h keeps = search rules
-flushed o m b after (Some input) was mid now new h keeps = (h.0.0, whole_output o m b new after input h.0.0 h.0.1, appends_kept was mid now h.0.0 h.0.2 keeps)
+pub flushed : (o : LabelledStyle) (m : Limits) (b : Beginning ReportingMonitor) (after : ReportingMonitor) (r was mid now : Option (List ℕ)) (total : Summary) → IsNewReading o m b → ReadingSucceeds RanEntries b after r was mid → Keeps mid now
+    → IsTotal (state_in after) (counted_in after) total → WritesOutput o r was now total
+flushed o m b after None was mid now total new h keeps t = search rules
+flushed o m b after (Some input) was mid now total new h keeps t = (h.0.0, whole_output o m b new after input h.0.0 total t h.0.1, appends_kept was mid now h.0.0 h.0.2 keeps)
 
--- a flush that fails after all was written
-pub flush_failed : (o : LabelledStyle) (m : Limits) (b : Beginning ReportingMonitor) (after : ReportingMonitor) (r was mid now : Option (List ℕ)) → IsNewReading o m b → ReadingSucceeds RanEntries b after r was mid → Keeps mid now → WritesPart o r was now
-flush_failed o m b after None was mid now new h keeps = search rules
-flush_failed o m b after (Some input) was mid now new h keeps =
-    (h.0.0, part_whole o input h.0.0 (whole_output o m b new after input h.0.0 h.0.1), appends_kept was mid now h.0.0 h.0.2 keeps)
+-- a flush or a count that fails after all was written
+pub failed_after : (o : LabelledStyle) (m : Limits) (b : Beginning ReportingMonitor) (after : ReportingMonitor) (r was mid now : Option (List ℕ)) → IsNewReading o m b → ReadingSucceeds RanEntries b after r was mid → Keeps mid now → WritesPart o r was now
+failed_after o m b after None was mid now new h keeps = search rules
+failed_after o m b after (Some input) was mid now new h keeps = (h.0.0, whole_part o m b new after input h.0.0 h.0.1, appends_kept was mid now h.0.0 h.0.2 keeps)
 
 -- a reading that failed
 pub reading_failed : (o : LabelledStyle) (m : Limits) (b : Beginning ReportingMonitor) (r was now : Option (List ℕ)) → IsNewReading o m b → ReadingFails BeginsOutput b r was now → WritesPart o r was now

@@ -25,17 +25,18 @@ use Rattle.scrib_findings.specs.declared.finding.RefusedStep.{RefusedStep}
 use Rattle.scrib_findings.specs.declared.finding.ReportedOffence.{ReportedOffence}
 use Rattle.scrib_labelled.specs.declared.labelled_monitor.Change.TheVariants as change
 use Rattle.scrib_labelled.specs.Changes.{change_by}
+use Rattle.scrib_labelled.specs.LabelledRuns.{concerned}
 use Rattle.scrib_reported.specs.declared.conversation_offence.ConversationOffence.{ConversationOffence}
 use Rattle.scrib_reported.specs.declared.kept.KeptConversation.{KeptConversation}
 use Rattle.scrib_reported.specs.declared.kept.KeptConversations.{KeptConversations}
 use Rattle.scrib_reported.specs.declared.reporter.Reporter.{Reporter}
 use Rattle.scrib_reported.specs.declared.step_head.StepHead.{StepHead}
 use Rattle.scrib_reported.specs.FoundOffences.{IsOffenceIn, IsSame}
-use Rattle.scrib_reported.specs.Kept.{IsKept, Keeping, keeping, nothing_kept, with_line}
+use Rattle.scrib_reported.specs.Kept.{IsKept, keeping, nothing_kept, with_line}
 use Rattle.scrib_reported.specs.Monitors.{Adds, AddsOffence, line_of}
 use Rattle.scrib_reported.specs.ReportedReplies as replies
-use Rattle.scrib_reported.specs.ReportedReplies.{FindsEnd, IsClean, IsNoOffence, IsOfAny, Reports, concerned, found_text, kept_of, reply_as_ever}
-use Rattle.scrib_reported.proofs.KeptLemmas.{kept_itself, kept_of_unchanged, kept_twice, kept_unchanged}
+use Rattle.scrib_reported.specs.ReportedReplies.{FindsEnd, IsClean, IsNoOffence, IsOfAny, Reports, found_text, kept_of, reply_as_ever}
+use Rattle.scrib_reported.proofs.KeptLemmas.{kept_itself, kept_of_unchanged, kept_twice}
 
 -- ---- replies that change nothing of what is kept
 

@@ -12,8 +12,6 @@ use Rattle.scrib_types.specs.declared.event.Told.TheVariants as tell
 use Rattle.scrib_types.specs.declared.event.Verdict.{Verdict}
 use Rattle.scrib_types.specs.declared.event.Verdict.TheVariants as verdict
 use Rattle.scrib_core.specs.Answers.{State, IsAccepted, IsAnswered, IsCompleteIn, IsReportedIn}
-use Rattle.scrib_core.specs.Held as held
-use Rattle.scrib_core.specs.Held.{Held}
 use Rattle.scrib_core.specs.Permitted.{is_permitted_verdict}
 use Rattle.scrib_core.specs.ReplyValues.{note_reply_of}
 use Rattle.scrib_core.specs.declared.conversation_steps.Noted.{Noted}
@@ -24,11 +22,14 @@ use Rattle.scrib_core.specs.declared.reply.Reply.{Reply}
 use Rattle.scrib_core.specs.declared.reply.Reply.TheVariants as reply
 use Rattle.scrib_core.specs.declared.step.Step.{Step}
 use Rattle.scrib_core.specs.declared.step.Step.TheVariants as step
-use Rattle.scrib_report.specs.PutBack.{bytes_of}
+use Rattle.scrib_report.specs.PutBack.{ReplyLabel, bytes_of, put_back_by}
+use Rattle.scrib_report.specs.declared.label.Label.{Label}
 use Rattle.scrib_report.specs.ReplyTexts.{reply_format}
 use Rattle.scrib_script_reader.specs.declared.item.Item.{Item}
 use Rattle.scrib_script_reader.specs.declared.item.Item.TheVariants as item
 use Rattle.scrib_cli.specs.declared.gathered.Gathered.{Gathered}
+use Rattle.scrib_summary.specs.declared.summary.Summary.{Summary}
+use Rattle.scrib_summary.specs.Summaries.{with_replies, with_reply}
 use Rattle.scrib_closing.specs.ClosingScripts.{Completes, is_accepted, is_send, judged_by}
 use Rattle.scrib_closing.proofs.SendLemmas.{send_open}
 use Rattle.scrib_labels.specs.declared.session_names.SessionNames.{SessionNames}
@@ -39,14 +40,17 @@ use Rattle.scrib_labelled.specs.declared.labelled_monitor.Change.TheVariants as 
 use Rattle.scrib_labelled.specs.Changes.{IsChangeBy, after_change, change_by}
 use Rattle.scrib_labelled.specs.ExchangeLines.{named_id}
 use Rattle.scrib_labelled.specs.LabelledLines.{LineLabel}
-use Rattle.scrib_labelled.specs.LabelledRuns.{Naming, after_replies, after_reply, session_name}
+use Rattle.scrib_labelled.specs.LabelledRuns.{Naming, after_replies, after_reply, put_back, session_name}
+use Rattle.scrib_labelled.specs.declared.label_options.LabelledStyle.{LabelledStyle}
 use Rattle.scrib_labelled.specs.NamedLines.{IsNumbersOf}
+use Rattle.scrib_reported.specs.declared.counted_core.CountedCore.{CountedCore}
 use Rattle.scrib_reported.specs.declared.kept.KeptConversations.{KeptConversations}
 use Rattle.scrib_reported.specs.declared.outcome.Outcome.{Outcome}
 use Rattle.scrib_reported.specs.declared.reporting_monitor.ReportingMonitor.{ReportingMonitor}
 use Rattle.scrib_reported.specs.declared.step_head.StepHead.{StepHead}
+use Rattle.scrib_reported.specs.CountedCores.{state_of}
 use Rattle.scrib_reported.specs.Kept.{IsKept, Keeping, keeping, with_line}
-use Rattle.scrib_reported.specs.Monitors.{Adds, CarriesItem, CarriesOut, GathersReply, MakesAll, MakesStep, is_permitted_note, kept_in, line_of, state_in}
+use Rattle.scrib_reported.specs.Monitors.{Adds, CarriesItem, CarriesOut, GathersReply, MakesAll, MakesStep, counted_in, is_permitted_note, kept_in, label_with, line_of, state_in}
 use Rattle.scrib_reported.specs.ReportedReplies.{IsReported, StepLine, notes}
 use Rattle.scrib_reported.specs.ReportedRuns.{Carries, Makes, alone, with_close, step_line}
 
@@ -137,6 +141,7 @@ module _ (h : StepHead) (old mid : ReportingMonitor) (made : Step) (o : Outcome)
     more = m.adds.more;
     makes = alone (kept_in mid) (state_in mid) m.reply m.adds.more m.answered (λ on id done. none on id (is ∙ done.0) (m.accepted_is ∙ done.1) done.2) m.adds.reported;
     changes = m.change_is;
+    counted = m.counted;
     grows = m.adds.grows;
   }
 
@@ -149,6 +154,7 @@ module _ (h : StepHead) (old mid : ReportingMonitor) (made : Step) (o : Outcome)
     makes =
         with_close (kept_in mid) (kept_in new) (state_in mid) (state_in new) id m.reply c.reply m.adds.more c.adds.more m.answered on (sym is ∙ by, sym m.accepted_is ∙ taken, complete) m.adds.reported c.answered c.adds.reported;
     changes = (refl, judged_unchanged (state_in old) (state_in mid) made m.reply id (sym is ∙ by) m.answered, c.change_is);
+    counted = c.counted ∙ ap (λ (s : Summary). with_reply c.reply s) m.counted;
     grows = c.adds.grows ∙ ap (λ (t : List ℕ). t ++ c.adds.more) m.adds.grows ∙ append_assoc old.reporter.text.items m.adds.more c.adds.more;
   }
 
@@ -169,48 +175,56 @@ name_back : (name : Option (Bor (List ℕ))) (id : ℕ) → session_name (named_
 name_back None id = refl
 name_back (Some n) id = refl
 
--- the label of an exchange's line
-abbrev pub exchange_step_line : (line : ℕ) (tag name : Option (Bor (List ℕ))) → Format → StepLine
-exchange_step_line line tag name f = record { number = line; tag = bytes_of tag; name = bytes_of name; format = f }
+-- the line of a step is that of its label
+pub head_line : (h : StepHead) (l : Label) (o : LabelledStyle) (label : LineLabel) (asked : Format) → put_back_by l ≡ put_back o label
+    → line_of h ≡ record { number = label.line; label = put_back_by l; format = reply_format o.format asked } → line_of h ≡ step_line o label asked
+head_line h l o label asked same is = is ∙ ap (λ (x : ReplyLabel). record { number = label.line; label = x; format = reply_format o.format asked }) same
 
-same_line : (line : ℕ) (text : List ℕ) (tag name : Option (Bor (List ℕ))) (id : ℕ) (f : Format) → exchange_step_line line tag name f ≡ step_line (record { line = line; text = text; tag = bytes_of tag; session = named_id name id }) f
-same_line line text tag name id f = ap (λ (n : Option (List ℕ)). record { number = line; tag = bytes_of tag; name = n; format = f }) (sym (name_back name id))
+-- the label of an exchange's line
+abbrev pub label_in : (line : ℕ) (text : List ℕ) (tag name : Option (Bor (List ℕ))) (id : ℕ) → LineLabel
+label_in line text tag name id = record { line = line; text = text; tag = bytes_of tag; session = named_id name id }
+
+-- the line of an exchange's step is that of its label
+pub exchange_line : (h : StepHead) (l : Label) (o : LabelledStyle) (line : ℕ) (text : List ℕ) (tag name : Option (Bor (List ℕ))) (id : ℕ) → put_back_by l ≡ label_with o line (bytes_of tag) (bytes_of name)
+    → line_of h ≡ record { number = line; label = put_back_by l; format = reply_format o.format format.Line } → line_of h ≡ step_line o (label_in line text tag name id) format.Line
+exchange_line h l o line text tag name id same is =
+    head_line h l o (label_in line text tag name id) format.Line (same ∙ ap (λ (n : Option (List ℕ)). label_with o line (bytes_of tag) n) (sym (name_back name id))) is
 
 module _ (old new : ReportingMonitor) (line : ℕ) (text : List ℕ) (tag name : Option (Bor (List ℕ))) (id : ℕ) (e : Event) (style : new.style ≡ old.style) where
   abbrev label : LineLabel
-  label = record { line = line; text = text; tag = bytes_of tag; session = named_id name id }
+  label = label_in line text tag name id
 
   abbrev here : StepLine
-  here = exchange_step_line line tag name (reply_format old.style.format format.Line)
+  here = step_line old.style label format.Line
 
   -- with one reply
   pub carries_note : (outcome : Result Noted Refusal) (more : List ℕ) → IsAnswered (state_in old) (step.Note id e) (note_reply_of id outcome) (state_in new) → (old.style.closes && not (is_send e)) ≡ false
-      → IsReported here (state_in new) (kept_in old) (kept_in new) (step.Note id e) (note_reply_of id outcome) more → new.names ≡ old.names → new.gathered.bytes.items ≡ old.gathered.bytes.items ++ more
-      → CarriesOut old new label (item.Step format.Line (step.Note id e))
-  carries_note outcome more answered test reported names grows = record {
+      → IsReported here (state_in new) (kept_in old) (kept_in new) (step.Note id e) (note_reply_of id outcome) more → new.names ≡ old.names → counted_in new ≡ with_reply (note_reply_of id outcome) (counted_in old)
+      → new.gathered.bytes.items ≡ old.gathered.bytes.items ++ more → CarriesOut old new label (item.Step format.Line (step.Note id e))
+  carries_note outcome more answered test reported names counted grows = record {
     style = style;
     replies = note_reply_of id outcome ∷ [];
     more = more;
     carries =
-        alone (kept_in new) (state_in new) (note_reply_of id outcome) more answered (note_stays old.style.closes id e outcome (state_in old) (state_in new) test answered)
-        (subst (λ (l : StepLine). IsReported l (state_in new) (kept_in old) (kept_in new) (step.Note id e) (note_reply_of id outcome) more) (same_line line text tag name id (reply_format old.style.format format.Line)) reported);
+        alone (kept_in new) (state_in new) (note_reply_of id outcome) more answered (note_stays old.style.closes id e outcome (state_in old) (state_in new) test answered) reported;
     named = λ n.
         ap (λ (s : _). number_of s n) names ∙ unchanged (number_of old.names) (named_id name id) n ∙ ap (λ (x : Change). after_change (number_of old.names) (named_id name id) x n) (note_change id outcome)
         ∙ replies-change (number_of old.names) (named_id name id) (note_reply_of id outcome ∷ []) (change_by (note_reply_of id outcome)) refl n;
+    counted = counted;
     grows = grows;
   }
 
   -- with all replies
   pub carries_all_of_note : (replies : List Reply) (more : List ℕ) (c : Change) → Makes old.style.closes here (kept_in old) (state_in old) (step.Note id e) (kept_in new) (state_in new) replies more → IsChangeBy replies c
-      → ((n : List ℕ) → number_of new.names n ≡ after_change (number_of old.names) (named_id name id) c n) → new.gathered.bytes.items ≡ old.gathered.bytes.items ++ more
-      → CarriesOut old new label (item.Step format.Line (step.Note id e))
-  carries_all_of_note replies more c makes changes names grows = record {
+      → ((n : List ℕ) → number_of new.names n ≡ after_change (number_of old.names) (named_id name id) c n) → counted_in new ≡ with_replies replies (counted_in old)
+      → new.gathered.bytes.items ≡ old.gathered.bytes.items ++ more → CarriesOut old new label (item.Step format.Line (step.Note id e))
+  carries_all_of_note replies more c makes changes names counted grows = record {
     style = style;
     replies = replies;
     more = more;
-    carries =
-        subst (λ (l : StepLine). Makes old.style.closes l (kept_in old) (state_in old) (step.Note id e) (kept_in new) (state_in new) replies more) (same_line line text tag name id (reply_format old.style.format format.Line)) makes;
+    carries = makes;
     named = λ n. names n ∙ replies-change (number_of old.names) (named_id name id) replies c changes n;
+    counted = counted;
     grows = grows;
   }
 
@@ -272,19 +286,16 @@ note_opens closes l old new w v id e replies more c (with_close mid n u t i r q 
 pub renames_nothing : (names : Naming) (session : Option (List ℕ × ℕ)) (name : List ℕ) → after_change names session change.Unchanged name ≡ names name
 renames_nothing names session name = sym (unchanged names session name)
 
--- the line of a step is that of its label
-pub head_line : (h : StepHead) (label : LineLabel) (f : Format) → h.number ≡ label.line → bytes_of h.tag ≡ label.tag → bytes_of h.name ≡ session_name label.session → h.format ≡ f → line_of h ≡ step_line label f
-head_line h label f number tag name format = λ i. record { number = number i; tag = tag i; name = name i; format = format i }
-
 -- the item of a step
-pub item_step : (old new : ReportingMonitor) (t : Vec ℕ Global) (label : LineLabel) (h : StepHead) (asked : Format) (made : Step) (c : Change) → line_of h ≡ step_line label (reply_format old.style.format asked) → t.items ≡ []
+pub item_step : (old new : ReportingMonitor) (t : Vec ℕ Global) (label : LineLabel) (h : StepHead) (asked : Format) (made : Step) (c : Change) → line_of h ≡ step_line old.style label asked → t.items ≡ []
     → MakesAll h (record old { reporter = record old.reporter { text = t } }) new made c → CarriesItem old new label (item.Step asked made) c
 item_step old new t label h asked made c line empty m = record {
   replies = m.replies;
   carries =
-      subst (λ (x : List ℕ). Makes old.style.closes (step_line label (reply_format old.style.format asked)) (kept_in old) (state_in old) made (kept_in new) (state_in new) m.replies x) (sym (m.grows ∙ ap (λ (x : List ℕ). x ++ m.more) empty))
+      subst (λ (x : List ℕ). Makes old.style.closes (step_line old.style label asked) (kept_in old) (state_in old) made (kept_in new) (state_in new) m.replies x) (sym (m.grows ∙ ap (λ (x : List ℕ). x ++ m.more) empty))
       (subst (λ (l : StepLine). Makes old.style.closes l (kept_in old) (state_in old) made (kept_in new) (state_in new) m.replies m.more) line m.makes);
   renames = λ names session name. replies-change names session m.replies c m.changes name;
+  counted = m.counted;
 }
 
 -- an item that was carried out, with its names and its text
@@ -295,9 +306,10 @@ carries_item old taken renamed g label i c t took same names grows = record {
   style = ap (λ (m : ReportingMonitor). m.style) same ∙ ap (λ (m : ReportingMonitor). m.style) took;
   replies = t.replies;
   more = taken.reporter.text.items;
-  carries = subst (λ (m : ReportingMonitor). Carries old.style label (kept_in old) (state_in old) i (kept_in m) (state_in m) t.replies taken.reporter.text.items) (sym same) t.carries;
+  carries = subst (λ (m : ReportingMonitor). Carries old.style (number_of old.names) label (kept_in old) (state_in old) i (kept_in m) (state_in m) t.replies taken.reporter.text.items) (sym same) t.carries;
   named = λ n.
       names n ∙ ap (λ (m : ReportingMonitor). after_change (number_of m.names) label.session c n) took ∙ t.renames (number_of old.names) label.session n;
+  counted = ap (λ (m : ReportingMonitor). counted_in m) same ∙ t.counted;
   grows =
       grows ∙ ap (λ (m : ReportingMonitor). m.gathered.bytes.items ++ m.reporter.text.items) same
       ∙ ap (λ (m : ReportingMonitor). m.gathered.bytes.items ++ taken.reporter.text.items) took;
@@ -331,43 +343,45 @@ pub permitted_note : (outcome : Result Noted Refusal) → is_permitted_note outc
 permitted_note (Ok n) e = (n.place, ap (λ (t : Told). Ok (record { place = n.place; told = t })) (told_permitted n.told e))
 permitted_note (Err f) e = absurd (false≢true e)
 
-module _ (old : ReportingMonitor) (k : Held) (line : ℕ) (text : List ℕ) (tag name : Option (Bor (List ℕ))) (id : ℕ) (e : Event) (outcome : Result Noted Refusal) (answered : IsAnswered (state_in old) (step.Note id e) (note_reply_of id outcome) (held.state_of k))
+module _ (old : ReportingMonitor) (k : CountedCore) (line : ℕ) (text : List ℕ) (tag name : Option (Bor (List ℕ))) (id : ℕ) (e : Event) (outcome : Result Noted Refusal) (answered : IsAnswered (state_in old) (step.Note id e) (note_reply_of id outcome) (state_of k))
+    (counted : k.summary ≡ with_reply (note_reply_of id outcome) (counted_in old))
     (test : (old.style.closes && not (is_send e)) ≡ false) where
   -- a permitted event, of which the line alone is kept
   pub permitted_carried : (kept : KeptConversations) (place : ℕ) → outcome ≡ Ok (record { place = place; told = tell.Judged verdict.Permitted }) → IsKept (kept_in old) id (with_line (kept_in old id) line) (keeping kept)
-      → CarriesOut old (record old { core = k; reporter = record old.reporter { kept = kept } }) (record { line = line; text = text; tag = bytes_of tag; session = named_id name id }) (item.Step format.Line (step.Note id e))
+      → CarriesOut old (record old { core = k; reporter = record old.reporter { kept = kept } }) (label_in line text tag name id) (item.Step format.Line (step.Note id e))
   permitted_carried kept place is added =
       let new : ReportingMonitor = record old { core = k; reporter = record old.reporter { kept = kept } } in
       carries_note old new line text tag name id e refl outcome [] answered test
-      (permitted_silent (exchange_step_line line tag name (reply_format old.style.format format.Line)) (held.state_of k) (kept_in old) (keeping kept) id place e outcome is added) refl
+      (permitted_silent (step_line old.style (label_in line text tag name id) format.Line) (state_of k) (kept_in old) (keeping kept) id place e outcome is added) refl counted
       (sym (append-nil old.gathered.bytes.items))
 
   -- any other event
-  pub noted_carried : (new : ReportingMonitor) (h : StepHead) → line_of h ≡ exchange_step_line line tag name (reply_format old.style.format format.Line) → GathersReply h (record old { core = k }) new (step.Note id e) (note_reply_of id outcome)
+  pub noted_carried : (new : ReportingMonitor) (h : StepHead) → line_of h ≡ step_line old.style (label_in line text tag name id) format.Line → GathersReply h (record old { core = k }) new (step.Note id e) (note_reply_of id outcome)
       → new ≡ record old { core = k; reporter = new.reporter; gathered = new.gathered }
-      → CarriesOut old new (record { line = line; text = text; tag = bytes_of tag; session = named_id name id }) (item.Step format.Line (step.Note id e))
+      → CarriesOut old new (label_in line text tag name id) (item.Step format.Line (step.Note id e))
   noted_carried new h is g same =
-      let state : held.state_of k ≡ state_in new = sym (ap (λ (m : ReportingMonitor). state_in m) same) in
+      let state : state_of k ≡ state_in new = sym (ap (λ (m : ReportingMonitor). state_in m) same) in
       carries_note old new line text tag name id e (ap (λ (m : ReportingMonitor). m.style) same) outcome g.more
       (subst (λ (s : State). IsAnswered (state_in old) (step.Note id e) (note_reply_of id outcome) s) state answered) test
-      (subst (λ (s : State). IsReported (exchange_step_line line tag name (reply_format old.style.format format.Line)) s (kept_in old) (kept_in new) (step.Note id e) (note_reply_of id outcome) g.more) state
-      (subst (λ (l : StepLine). IsReported l (held.state_of k) (kept_in old) (kept_in new) (step.Note id e) (note_reply_of id outcome) g.more) is g.reported))
-      (ap (λ (m : ReportingMonitor). m.names) same) g.grows
+      (subst (λ (s : State). IsReported (step_line old.style (label_in line text tag name id) format.Line) s (kept_in old) (kept_in new) (step.Note id e) (note_reply_of id outcome) g.more) state
+      (subst (λ (l : StepLine). IsReported l (state_of k) (kept_in old) (kept_in new) (step.Note id e) (note_reply_of id outcome) g.more) is g.reported))
+      (ap (λ (m : ReportingMonitor). m.names) same) (ap (λ (m : ReportingMonitor). counted_in m) same ∙ counted) g.grows
 
 -- an event behind which its conversation may be closed
 pub closed_carried : (old made renamed : ReportingMonitor) (t : Vec ℕ Global) (g : Gathered) (h : StepHead) (line : ℕ) (text : List ℕ) (tag name : Option (Bor (List ℕ))) (id : ℕ) (e : Event) (c : Change)
-    → line_of h ≡ exchange_step_line line tag name (reply_format old.style.format format.Line) → t.items ≡ [] → MakesAll h (record old { reporter = record old.reporter { text = t } }) made (step.Note id e) c
+    → line_of h ≡ step_line old.style (label_in line text tag name id) format.Line → t.items ≡ [] → MakesAll h (record old { reporter = record old.reporter { text = t } }) made (step.Note id e) c
     → made ≡ record old { core = made.core; reporter = made.reporter } → renamed ≡ record made { names = renamed.names }
     → (c ≢ change.Opened → (n : List ℕ) → number_of renamed.names n ≡ after_change (number_of made.names) (named_id name id) c n)
     → g.bytes.items ≡ renamed.gathered.bytes.items ++ renamed.reporter.text.items
-    → CarriesOut old (record renamed { gathered = g }) (record { line = line; text = text; tag = bytes_of tag; session = named_id name id }) (item.Step format.Line (step.Note id e))
+    → CarriesOut old (record renamed { gathered = g }) (label_in line text tag name id) (item.Step format.Line (step.Note id e))
 closed_carried old made renamed t g h line text tag name id e c is empty m done same names grows =
-    let here = exchange_step_line line tag name (reply_format old.style.format format.Line) in
+    let here = step_line old.style (label_in line text tag name id) format.Line in
     let opens = note_opens old.style.closes (line_of h) (kept_in old) (kept_in made) (state_in old) (state_in made) id e m.replies m.more c m.makes m.changes in
     carries_all_of_note old (record renamed { gathered = g }) line text tag name id e (ap (λ (x : ReportingMonitor). x.style) same ∙ ap (λ (x : ReportingMonitor). x.style) done) m.replies m.more c
     (subst (λ (x : ReportingMonitor). Makes old.style.closes here (kept_in old) (state_in old) (step.Note id e) (kept_in x) (state_in x) m.replies m.more) (sym same)
     (subst (λ (l : StepLine). Makes old.style.closes l (kept_in old) (state_in old) (step.Note id e) (kept_in made) (state_in made) m.replies m.more) is m.makes))
     m.changes (λ n. names opens n ∙ ap (λ (x : ReportingMonitor). after_change (number_of x.names) (named_id name id) c n) done)
+    (ap (λ (x : ReportingMonitor). counted_in x) same ∙ m.counted)
     (grows ∙ ap (λ (x : ReportingMonitor). x.gathered.bytes.items ++ x.reporter.text.items) same ∙ ap (λ (x : ReportingMonitor). x.gathered.bytes.items ++ made.reporter.text.items) done
     ∙ ap (λ (x : List ℕ). old.gathered.bytes.items ++ x) (m.grows ∙ ap (λ (x : List ℕ). x ++ m.more) empty))
 

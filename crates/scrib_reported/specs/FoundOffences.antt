@@ -10,8 +10,8 @@ use Rattle.scrib_findings.specs.declared.finding.ReportedOffence.{ReportedOffenc
 use Rattle.scrib_reported.specs.Kept.{line_at}
 
 -- In the state the conversation's event at this place may not follow those before it, under the present meaning of its
--- protocol, which has this name. The offence has that event, its line among these, and the reason. The actions are those
--- that the verdict allows.
+-- protocol, which has this name. The offence has that event, its line among these, and the reason. The actions are
+-- those that the verdict allows.
 pub record IsOffenceIn (s : State) (id : ℕ) (lines : List ℕ) (place : ℕ) (allowed : List Action)
     (protocol : List (List ℕ)) (o : ReportedOffence) : Type 0 where
   pub of : Conversation

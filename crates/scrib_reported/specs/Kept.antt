@@ -21,6 +21,10 @@ kept_or_nothing (Some k) = k
 abbrev pub keeping : KeptConversations → Keeping
 keeping k id = kept_or_nothing (lookup (nat_eq id) k.table.entries)
 
+-- the place in the table is that of the conversation
+abbrev pub IsKeptAt : KeptConversations → (place id : ℕ) → Type 0
+IsKeptAt k place id = (kept : KeptConversation) × (slice_get k.table.entries place ≡ Some (id, kept))
+
 -- the same with the line of one more event
 abbrev pub with_line : KeptConversation → (line : ℕ) → KeptConversation
 with_line k line = record { lines = k.lines ++ line ∷ []; offence = k.offence }

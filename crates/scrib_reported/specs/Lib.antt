@@ -1,4 +1,5 @@
 pub mod Kept
+pub mod CountedCores
 pub mod FoundOffences
 pub mod ReportedReplies
 pub mod ReportedRuns

@@ -1,18 +1,19 @@
 -- What a monitor that reports does with steps and items (this project's own). Only contracts of private functions cite
 -- this file.
-use Rattle.std.specs.Prelude.{◌≡◌, ℕ, Bool, false, List, ◌++◌, Option, Some, Result, Ok, Err}
+use Rattle.std.specs.Prelude.{◌≡◌, ℕ, Bool, false, if◌then◌else◌, List, ◌++◌, Option, Some, None, Result, Ok, Err}
 use Rattle.scrib_core.specs.declared.conversation_steps.Noted.{Noted}
 use Rattle.scrib_core.specs.declared.reply.Refusal.{Refusal}
 use Rattle.scrib_core.specs.declared.reply.Reply.{Reply}
 use Rattle.scrib_core.specs.declared.step.Step.{Step}
 use Rattle.scrib_core.specs.Answers.{State, IsAnswered}
-use Rattle.scrib_core.specs.Held as held
 use Rattle.scrib_core.specs.Marks.{Fresh}
 use Rattle.scrib_core.specs.Permitted.{is_permitted_verdict}
+use Rattle.scrib_summary.specs.declared.summary.Summary.{Summary}
+use Rattle.scrib_summary.specs.Summaries.{with_replies, with_reply}
 use Rattle.scrib_sweep.specs.ConversationTurns.{AreTurnsOf}
 use Rattle.scrib_closing.specs.ClosingScripts.{is_accepted}
 use Rattle.scrib_labels.specs.Naming.{number_of}
-use Rattle.scrib_report.specs.PutBack.{bytes_of}
+use Rattle.scrib_report.specs.PutBack.{ReplyLabel, put_back_by}
 use Rattle.scrib_script_reader.specs.declared.item.Item.{Item}
 use Rattle.scrib_findings.specs.declared.finding.Finding.TheVariants as finding
 use Rattle.scrib_findings.specs.declared.finding.FoundOffence.{FoundOffence}
@@ -27,13 +28,19 @@ use Rattle.scrib_reported.specs.declared.outcome.Outcome.{Outcome}
 use Rattle.scrib_reported.specs.declared.reporter.Reporter.{Reporter}
 use Rattle.scrib_reported.specs.declared.reporting_monitor.ReportingMonitor.{ReportingMonitor}
 use Rattle.scrib_reported.specs.declared.step_head.StepHead.{StepHead}
+use Rattle.scrib_reported.specs.CountedCores.{state_of}
 use Rattle.scrib_reported.specs.Kept.{IsKept, Keeping, keeping}
 use Rattle.scrib_reported.specs.ReportedReplies.{FindsOffence, IsReported, StepLine, found_text}
-use Rattle.scrib_reported.specs.ReportedRuns.{Carries, Makes, ReportedRuns, ReportedSweep, SweepTurns}
+use Rattle.scrib_reported.specs.ReportedRuns.{Carries, Makes, ReportedRuns, ReportedSweep, SweepTurns, with_item}
 
 -- the line of a step
 abbrev pub line_of : StepHead → StepLine
-line_of h = record { number = h.number; tag = bytes_of h.tag; name = bytes_of h.name; format = h.format }
+line_of h = record { number = h.number; label = put_back_by h.label; format = h.format }
+
+-- what is put back into the replies to a line with this number, this tag and this name
+abbrev pub label_with : LabelledStyle → (number : ℕ) → (tag name : Option (List ℕ)) → ReplyLabel
+label_with o number tag name =
+    record { tag = tag; name = name; line = if o.lines then Some number else None; conversation = None }
 
 -- the reply to a step was reported, in the state behind it
 pub record Adds (h : StepHead) (s : State) (old new : Reporter) (made : Step) (r : Reply) : Type 0 where
@@ -56,7 +63,11 @@ is_permitted_note (Err f) = false
 
 -- the state of a monitor
 abbrev pub state_in : ReportingMonitor → State
-state_in m = held.state_of m.core
+state_in m = state_of m.core
+
+-- what the replies of a monitor come to so far
+abbrev pub counted_in : ReportingMonitor → Summary
+counted_in m = m.core.summary
 
 -- what a monitor keeps of each conversation
 abbrev pub kept_in : ReportingMonitor → Keeping
@@ -67,6 +78,7 @@ pub record MakesStep (h : StepHead) (old new : ReportingMonitor) (made : Step) (
   pub reply : Reply
   pub answered : IsAnswered (state_in old) made reply (state_in new)
   pub adds : Adds h (state_in new) old.reporter new.reporter made reply
+  pub counted : counted_in new ≡ with_reply reply (counted_in old)
   pub change_is : o.change ≡ change_by reply
   pub accepted_is : o.accepted ≡ is_accepted reply
 
@@ -83,13 +95,16 @@ pub record MakesAll (h : StepHead) (old new : ReportingMonitor) (made : Step) (c
   pub makes : Makes old.style.closes (line_of h) (kept_in old) (state_in old) made (kept_in new) (state_in new) replies
       more
   pub changes : IsChangeBy replies c
+  pub counted : counted_in new ≡ with_replies replies (counted_in old)
   pub grows : new.reporter.text.items ≡ old.reporter.text.items ++ more
 
 -- turns of a sweep were made and reported, and each was accepted, or the last one was refused
 pub record MakesTurns (h : StepHead) (old new : ReportingMonitor) (accepted : Bool) : Type 0 where
   pub replies : List Reply
   pub more : List ℕ
-  pub turns : SweepTurns (line_of h) (kept_in old) (state_in old) accepted (kept_in new) (state_in new) replies more
+  pub turns : SweepTurns (number_of old.names) (line_of h) (kept_in old) (state_in old) accepted (kept_in new)
+      (state_in new) replies more
+  pub counted : counted_in new ≡ with_replies replies (counted_in old)
   pub grows : new.reporter.text.items ≡ old.reporter.text.items ++ more
 
 -- turns of this conversation were made, which leave the marks of the others, and it is not stale behind them
@@ -102,7 +117,9 @@ pub record RenewsConversation (s : State) (id : ℕ) (t : State) : Type 0 where
 pub record MakesSweep (h : StepHead) (old new : ReportingMonitor) : Type 0 where
   pub replies : List Reply
   pub more : List ℕ
-  pub sweeps : ReportedSweep (line_of h) (kept_in old) (state_in old) (kept_in new) (state_in new) replies more
+  pub sweeps : ReportedSweep (number_of old.names) (line_of h) (kept_in old) (state_in old) (kept_in new)
+      (state_in new) replies more
+  pub counted : counted_in new ≡ with_replies replies (counted_in old)
   pub grows : new.reporter.text.items ≡ old.reporter.text.items ++ more
 
 -- the replies change this in the numbers of names
@@ -114,18 +131,21 @@ Renames replies c =
 -- the item of a line with this label was carried out, and made this text
 pub record CarriesItem (old new : ReportingMonitor) (label : LineLabel) (i : Item) (c : Change) : Type 0 where
   pub replies : List Reply
-  pub carries : Carries old.style label (kept_in old) (state_in old) i (kept_in new) (state_in new) replies
-      new.reporter.text.items
+  pub carries : Carries old.style (number_of old.names) label (kept_in old) (state_in old) i (kept_in new)
+      (state_in new) replies new.reporter.text.items
   pub renames : Renames replies c
+  pub counted : counted_in new ≡ with_item i replies (counted_in old)
 
 -- the same, and its text was gathered
 pub record CarriesOut (old new : ReportingMonitor) (label : LineLabel) (i : Item) : Type 0 where
   pub style : new.style ≡ old.style
   pub replies : List Reply
   pub more : List ℕ
-  pub carries : Carries old.style label (kept_in old) (state_in old) i (kept_in new) (state_in new) replies more
+  pub carries : Carries old.style (number_of old.names) label (kept_in old) (state_in old) i (kept_in new)
+      (state_in new) replies more
   pub named : (name : List ℕ)
       → number_of new.names name ≡ after_replies (number_of old.names) label.session replies name
+  pub counted : counted_in new ≡ with_item i replies (counted_in old)
   pub grows : new.gathered.bytes.items ≡ old.gathered.bytes.items ++ more
 
 -- ---- the monitor as a stage
@@ -136,7 +156,7 @@ gathered_by m = m.gathered.bytes.items
 
 -- the items were carried out to what this monitor is, with this output
 abbrev pub Ran : LabelledStyle → List (LineLabel × Item) → ReportingMonitor → (output : List ℕ) → Type 0
-Ran o items m output = ReportedRuns o items (number_of m.names) (kept_in m) (state_in m) output
+Ran o items m output = ReportedRuns o items (number_of m.names) (kept_in m) (state_in m) (counted_in m) output
 
 -- the items of these entries were carried out since the monitor was new, with this output
 abbrev pub RanEntries : (new now : ReportingMonitor) → List LabelledEntry → (output : List ℕ) → Type 0
@@ -147,7 +167,8 @@ pub record BeginsOutput (new : ReportingMonitor) (entries : List LabelledEntry) 
   pub names : Naming
   pub kept : Keeping
   pub after : State
+  pub counted : Summary
   pub output : List ℕ
-  pub runs : ReportedRuns new.style (items_among entries) names kept after output
+  pub runs : ReportedRuns new.style (items_among entries) names kept after counted output
   pub rest : List ℕ
   pub begins : output ≡ part ++ rest

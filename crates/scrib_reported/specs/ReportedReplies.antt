@@ -14,11 +14,10 @@ use Rattle.scrib_core.specs.declared.reply.Refusal.{Refusal}
 use Rattle.scrib_core.specs.declared.reply.Reply.{Reply}
 use Rattle.scrib_core.specs.declared.reply.Reply.TheVariants as reply
 use Rattle.scrib_core.specs.declared.step.Step.{Step}
-use Rattle.scrib_core.specs.declared.step.Step.TheVariants.{Put, Withdraw, Open, Note, Turn, Ask, Close}
-use Rattle.scrib_core.specs.declared.step.Step.TheVariants as step
+use Rattle.scrib_core.specs.declared.step.Step.TheVariants.{Note, Turn, Ask}
 use Rattle.scrib_core.specs.Answers.{State}
 use Rattle.scrib_report.specs.LabelledReplies.{labelled_reply}
-use Rattle.scrib_report.specs.PutBack.{bytes_of}
+use Rattle.scrib_report.specs.PutBack.{ReplyLabel, bytes_of}
 use Rattle.scrib_findings.specs.declared.finding.CleanVerdict.{CleanVerdict}
 use Rattle.scrib_findings.specs.declared.finding.CleanVerdict.TheVariants as clean
 use Rattle.scrib_findings.specs.declared.finding.ConversationId.{ConversationId}
@@ -29,31 +28,20 @@ use Rattle.scrib_findings.specs.declared.finding.OffenceEnd.{OffenceEnd}
 use Rattle.scrib_findings.specs.declared.finding.RefusedStep.{RefusedStep}
 use Rattle.scrib_findings.specs.declared.finding.ReportedOffence.{ReportedOffence}
 use Rattle.scrib_findings.specs.FindingTexts.{finding_text}
+use Rattle.scrib_labelled.specs.LabelledRuns.{concerned}
 use Rattle.scrib_reported.specs.declared.kept.KeptConversation.{KeptConversation}
 use Rattle.scrib_reported.specs.FoundOffences.{IsOffenceIn, IsSame}
 use Rattle.scrib_reported.specs.Kept.{IsKept, Keeping, nothing_kept, with_line}
 
--- the line of a step: its number, its tag, the name of its conversation, and the format of what is written for it
+-- the line of a step: its number, what is put back into the replies to it, and the format of what is written for it
 pub record StepLine : Type 0 where
   pub number : ℕ
-  pub tag : Option (List ℕ)
-  pub name : Option (List ℕ)
+  pub label : ReplyLabel
   pub format : Format
-
--- the conversation of a step, if it has one
-abbrev pub concerned : Step → Option ℕ
-concerned (Put text) = None
-concerned (Withdraw name) = None
-concerned (step.Profile p) = None
-concerned (Open id name) = Some id
-concerned (Note id e) = Some id
-concerned (Turn id) = Some id
-concerned (Ask id) = Some id
-concerned (Close id) = Some id
 
 -- a finding is of this conversation, by its name where the line has one
 abbrev pub IsOf : StepLine → (id : ℕ) → ConversationId → Type 0
-IsOf l id c = (c.number ≡ id) × (bytes_of c.name ≡ l.name)
+IsOf l id c = (c.number ≡ id) × (bytes_of c.name ≡ l.label.name)
 
 -- the same, if there is a conversation
 abbrev pub IsOfAny : StepLine → Option ℕ → Option ConversationId → Type 0
@@ -87,11 +75,12 @@ pub record FindsRefusal (l : StepLine) (of : Option ℕ) (refusal : Refusal) (f 
 
 -- what is written for a finding at this line
 abbrev pub found_text : StepLine → Finding → List ℕ
-found_text l f = finding_text l.format l.tag f
+found_text l f = finding_text l.format l.label.tag f
 
--- what is written for a reply that is printed as without reports
+-- What is written for a reply that is printed as without reports. It is no refusal, so the number of the step's
+-- conversation is not put back.
 abbrev pub reply_as_ever : StepLine → Reply → List ℕ
-reply_as_ever l r = labelled_reply l.format l.tag l.name r
+reply_as_ever l r = labelled_reply l.format l.label r
 
 -- the verdict that is no offence
 abbrev pub IsClean : Verdict → CleanVerdict → Type 0

@@ -6,7 +6,7 @@ use Rattle.std.proofs.lemmas.List.{append-nil, append_assoc}
 use Rattle.scrib_labels.specs.Naming.{number_of}
 use Rattle.scrib_labelled.specs.LabelledEntries.{LabelledEntry}
 use Rattle.scrib_reported.specs.declared.reporting_monitor.ReportingMonitor.{ReportingMonitor}
-use Rattle.scrib_reported.specs.Monitors.{BeginsOutput, RanEntries, kept_in, state_in}
+use Rattle.scrib_reported.specs.Monitors.{BeginsOutput, RanEntries, counted_in, kept_in, state_in}
 
 -- what was carried out is a beginning of itself
 pub ran_begins : (new now : ReportingMonitor) (entries : List LabelledEntry) (out : List ℕ)
@@ -15,6 +15,7 @@ ran_begins new now entries out h = record {
   names = number_of now.names;
   kept = kept_in now;
   after = state_in now;
+  counted = counted_in now;
   output = out;
   runs = h.1;
   rest = [];
@@ -28,6 +29,7 @@ less_begins new entries part rest h = record {
   names = h.names;
   kept = h.kept;
   after = h.after;
+  counted = h.counted;
   output = h.output;
   runs = h.runs;
   rest = rest ++ h.rest;

@@ -5,6 +5,9 @@ use scrib_findings::finding::ReportedOffence;
 use scrib_types::containers::Items;
 use std::alloc::{AllocError, Global};
 
+// How many hints there are at first. There is always a power of two of them, or none.
+const FIRST_HINTS: usize = 1_024;
+
 /// What is kept of a conversation.
 #[derive(Drop)]
 pub struct KeptConversation {
@@ -19,13 +22,16 @@ pub struct KeptConversation {
 pub struct KeptConversations {
     alloc: Global,
     table: IndexMap<u32, KeptConversation>,
+    // The place in the table of a conversation by the low bits of its number. The number at the place is compared, so
+    // no contract speaks of the hints.
+    hints: Vec<usize>,
 }
 
 impl KeptConversations {
-    ghost use Rattle.std.specs.Prelude.{◌≡◌, ℕ, OnOk};
+    ghost use Rattle.std.specs.Prelude.{◌≡◌, ℕ, IsTrue, OnOk};
     ghost use Rattle.std.specs.Option.{option_copied};
     ghost use Rattle.scrib_reported.specs.Kept as spec;
-    ghost use Rattle.scrib_reported.specs.Kept.{IsKept, keeping, nothing_kept, with_line};
+    ghost use Rattle.scrib_reported.specs.Kept.{IsKept, IsKeptAt, keeping, nothing_kept, with_line};
 
     /// Keeps nothing.
     pub(crate) fn new(alloc: Global) -> KeptConversations
@@ -34,6 +40,7 @@ impl KeptConversations {
         KeptConversations {
             alloc,
             table: IndexMap::new(alloc),
+            hints: Vec::new(alloc),
         }
     }
 
@@ -43,6 +50,58 @@ impl KeptConversations {
     /// `AllocError` where memory is refused.
     #[inline(always)]
     pub(crate) fn add_line(&mut self, id: u32, line: u64) -> Result<(), AllocError>
+        ensures { OnOk result
+            (IsKept (keeping self.old) id (with_line (keeping self.old id) line) (keeping self.new)) }
+    {
+        let place = self.hinted_place(id);
+        // as at most events of a long script
+        if self.is_at(place, id)
+            && let Some(kept) = self.table.get_index_mut(place)
+        {
+            return kept.lines.push(line);
+        }
+        self.add_line_anywhere(id, line)
+    }
+
+    // Returns the place in the table at which the conversation may be.
+    #[inline(always)]
+    fn hinted_place(&self, id: u32) -> usize {
+        match self.hints.get(self.slot_of(id)) {
+            Some(place) => *place,
+            None => 0,
+        }
+    }
+
+    // Returns the slot of the conversation among the hints.
+    #[inline(always)]
+    fn slot_of(&self, id: u32) -> usize {
+        id as usize & self.hints.len().wrapping_sub(1)
+    }
+
+    // Returns whether the place in the table is that of the conversation.
+    #[inline(always)]
+    fn is_at(&self, place: usize, id: u32) -> bool
+        ensures { IsTrue result → IsKeptAt self.now place id }
+    {
+        match self.table.get_index(place) {
+            Some((key, _)) => *key == id,
+            None => false,
+        }
+    }
+
+    // The same as `add_line`, at any place of the table. Notes the place.
+    #[inline(never)]
+    fn add_line_anywhere(&mut self, id: u32, line: u64) -> Result<(), AllocError>
+        ensures { OnOk result
+            (IsKept (keeping self.old) id (with_line (keeping self.old id) line) (keeping self.new)) }
+    {
+        self.add_line_by_key(id, line)?;
+        self.hint(id);
+        Ok(())
+    }
+
+    // Adds the line of the next event of the conversation, with a look-up of its number.
+    fn add_line_by_key(&mut self, id: u32, line: u64) -> Result<(), AllocError>
         ensures { OnOk result
             (IsKept (keeping self.old) id (with_line (keeping self.old id) line) (keeping self.new)) }
     {
@@ -60,6 +119,23 @@ impl KeptConversations {
                 )?;
                 Ok(())
             }
+        }
+    }
+
+    // Notes the place of the conversation. Where memory for more hints is refused, there are as many as before.
+    fn hint(&mut self, id: u32)
+        ensures { self.new ≡ record self.old { hints = self.new.hints } }
+    {
+        if self.hints.len() < self.table.len() {
+            let count = self.hints.len().saturating_mul(2).max(FIRST_HINTS);
+            let _ = self.hints.resize(count, 0);
+        }
+        let Some(place) = self.table.get_index_of(&id) else {
+            return;
+        };
+        let slot = self.slot_of(id);
+        if let Some(hint) = self.hints.get_mut(slot) {
+            *hint = place;
         }
     }
 

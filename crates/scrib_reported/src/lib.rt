@@ -2,6 +2,7 @@
 #![tactic(auto)]
 
 mod conversation_offence;
+mod counted_core;
 mod kept;
 mod outcome;
 mod reporter;

@@ -15,7 +15,6 @@ use scrib_findings::finding::{
 };
 use scrib_findings::finding_text::push_finding;
 use scrib_labelled::labelled_monitor::Change;
-use scrib_report::label::Label;
 use scrib_report::labelled::push_labelled_reply;
 use scrib_types::allowed::Allowed;
 use scrib_types::event::{Told, Verdict};
@@ -51,11 +50,12 @@ impl Reporter {
     ghost use Rattle.scrib_core.specs.declared.step.Step.TheVariants as step;
     ghost use Rattle.scrib_closing.specs.ClosingScripts.{is_accepted, judged_by};
     ghost use Rattle.scrib_labelled.specs.Changes.{change_by};
+    ghost use Rattle.scrib_labelled.specs.LabelledRuns.{concerned};
     ghost use Rattle.scrib_findings.specs.declared.finding.ReportedOffence.{ReportedOffence};
     ghost use Rattle.scrib_reported.specs.FoundOffences.{IsSame};
     ghost use Rattle.scrib_reported.specs.Kept.{keeping, nothing_kept};
     ghost use Rattle.scrib_reported.specs.Monitors.{Adds, AddsOffence};
-    ghost use Rattle.scrib_reported.specs.ReportedReplies.{IsClean, concerned, reply_as_ever};
+    ghost use Rattle.scrib_reported.specs.ReportedReplies.{IsClean, reply_as_ever};
 
     /// Keeps nothing, and has no text.
     pub(crate) fn new(alloc: Global) -> Reporter
@@ -169,7 +169,7 @@ impl Reporter {
             &mut self.text,
             Finding::OffenceEnd(end),
             head.format,
-            head.tag,
+            head.label.tag,
         )?;
         self.kept.set_offence(id, None)
     }
@@ -229,7 +229,7 @@ impl Reporter {
             &mut self.text,
             Finding::Offence(finding),
             head.format,
-            head.tag,
+            head.label.tag,
         )?;
         self.kept.set_offence(id, Some(offence))
     }
@@ -253,12 +253,12 @@ impl Reporter {
             &mut self.text,
             Finding::Refusal(step),
             head.format,
-            head.tag,
+            head.label.tag,
         )
     }
 
-    /// Reports the reply to an accepted step of this conversation, if it has one, which notes no event and makes no turn.
-    /// Returns what changed.
+    /// Reports the reply to an accepted step of this conversation, if it has one, which notes no event and makes no
+    /// turn. Returns what changed.
     pub(crate) fn push_accepted(
         &mut self,
         id: Option<u32>,
@@ -292,11 +292,7 @@ impl Reporter {
         ensures ok { OnOk result
             (self.new.text.items ≡ self.old.text.items ++ reply_as_ever (line_of head.entry) reply.now) }
     {
-        let label = Label {
-            tag: head.tag,
-            name: head.name,
-        };
-        push_labelled_reply(&mut self.text, reply, head.format, label)
+        push_labelled_reply(&mut self.text, reply, head.format, head.label)
     }
 }
 
@@ -306,7 +302,7 @@ fn conversation_of(id: u32, head: StepHead<'_>) -> ConversationId<'_>
 {
     ConversationId {
         number: id,
-        name: head.name,
+        name: head.label.name,
     }
 }
 

@@ -1,12 +1,12 @@
 //! A monitor that writes findings in place of replies, and whose conversations may have names.
 
-ghost use Rattle.std.specs.Prelude.{◌≡◌};
+ghost use Rattle.std.specs.Prelude.{◌≡◌, option_map, string_bytes};
 ghost use Rattle.scrib_report.specs.PutBack.{bytes_of};
 ghost use Rattle.scrib_labelled.specs.LabelledRuns.{session_name};
 ghost use Rattle.scrib_labelled.specs.NamedLines.{session_of};
 ghost use Rattle.scrib_reported.specs.Monitors.{is_permitted_note};
-ghost use Rattle.scrib_reported.specs.ReportedReplies.{concerned};
 
+use crate::counted_core::CountedCore;
 use crate::outcome::Outcome;
 use crate::reporter::{Reporter, Turned};
 use crate::step_head::StepHead;
@@ -14,20 +14,21 @@ use scrib_cli::gathered::Gathered;
 use scrib_closing::completion::{completed, is_send, judged_by};
 use scrib_core::conversation_steps::Noted;
 use scrib_core::format::Format;
-use scrib_core::monitor::Core;
 use scrib_core::reply::{Refusal, Reply};
 use scrib_core::step::Step;
 use scrib_labelled::entry_stage::EntryStage;
 use scrib_labelled::exchange_line::ExchangeLine;
 use scrib_labelled::label_options::LabelledStyle;
-use scrib_labelled::labelled_monitor::Change;
+use scrib_labelled::labelled_monitor::{Change, concerned};
 use scrib_labelled::line_parts::{LineParts, Session};
 use scrib_labels::session_names::SessionNames;
+use scrib_report::label::Label;
 use scrib_report::labelled::{push_labelled_bad_line, push_labelled_end, push_labelled_swept};
 use scrib_report::printing::reply_format;
 use scrib_script_io::fault::ScriptFault;
 use scrib_script_reader::entry::Entry;
 use scrib_script_reader::item::Item;
+use scrib_summary::summary::Summary;
 use scrib_sweep::stale::stale_conversations;
 use scrib_types::event::{Told, Verdict};
 use scrib_types::shared_event::SharedEvent;
@@ -37,7 +38,7 @@ use std::io::Write;
 /// A monitor, the numbers that stand for the names of its conversations, and the findings that are not written yet.
 #[derive(Drop)]
 pub(crate) struct ReportingMonitor {
-    core: Core,
+    core: CountedCore,
     style: LabelledStyle,
     names: SessionNames,
     reporter: Reporter,
@@ -45,7 +46,8 @@ pub(crate) struct ReportingMonitor {
 }
 
 impl ReportingMonitor {
-    ghost use Rattle.std.specs.Prelude.{◌≡◌, ◌≢◌, ◌&&◌, ℕ, List, None, Some, true, not, IfOk, IfSome, MatchOption, OnErr, OnOk};
+    ghost use Rattle.std.specs.Prelude.{◌≡◌, ◌≢◌, ◌&&◌, ℕ, List, None, Some, true, not, option_map, string_bytes};
+    ghost use Rattle.std.specs.Prelude.{IfOk, IfSome, MatchOption, OnErr, OnOk};
     ghost use Rattle.scrib_core.specs.Answers.{IsCompleteIn, IsReportedIn, initial};
     ghost use Rattle.scrib_core.specs.declared.format.Format.TheVariants as format;
     ghost use Rattle.scrib_core.specs.declared.step.Step.TheVariants.{Note, Turn};
@@ -61,8 +63,14 @@ impl ReportingMonitor {
     ghost use Rattle.scrib_labelled.specs.declared.labelled_monitor.Change.TheVariants as changes;
     ghost use Rattle.scrib_labelled.specs.ExchangeLines.{exchange_label, named_id};
     ghost use Rattle.scrib_labelled.specs.NamedLines.{IsNumbersOf, label_of, session_of};
+    ghost use Rattle.scrib_report.specs.PutBack.{bytes_of, put_back_by};
+    ghost use Rattle.scrib_report.specs.ReplyTexts as spec;
     ghost use Rattle.scrib_reported.specs.Kept.{nothing_kept};
-    ghost use Rattle.scrib_reported.specs.Monitors.{CarriesItem, CarriesOut, GathersReply, MakesAll, MakesStep, MakesSweep, MakesTurns, RenewsConversation, gathered_by, kept_in, state_in};
+    ghost use Rattle.scrib_reported.specs.ReportedRuns.{IsNameOf, IsTotal};
+    ghost use Rattle.scrib_summary.specs.Summaries.{no_replies};
+    ghost use Rattle.scrib_reported.specs.Monitors.{CarriesItem, CarriesOut, GathersReply, MakesAll, MakesStep};
+    ghost use Rattle.scrib_reported.specs.Monitors.{MakesSweep, MakesTurns, RenewsConversation};
+    ghost use Rattle.scrib_reported.specs.Monitors.{counted_in, gathered_by, kept_in, label_with, line_of, state_in};
 
     /// Returns a new monitor, without names.
     pub(crate) fn new(alloc: Global, style: LabelledStyle) -> ReportingMonitor
@@ -70,14 +78,25 @@ impl ReportingMonitor {
         ensures style { result.style ≡ style }
         ensures names { (name : List ℕ) → number_of result.names name ≡ None }
         ensures kept { (id : ℕ) → kept_in result id ≡ nothing_kept }
+        ensures counted { counted_in result ≡ no_replies }
     {
         ReportingMonitor {
-            core: Core::new(alloc),
+            core: CountedCore::new(alloc),
             style,
             names: SessionNames::new(alloc),
             reporter: Reporter::new(alloc),
             gathered: Gathered::new(alloc),
         }
+    }
+
+    /// Returns what the script so far comes to, together with the verdicts on the conversations that are open.
+    ///
+    /// # Errors
+    /// `AllocError` where memory is refused.
+    pub(crate) fn total(&self) -> Result<Summary, AllocError>
+        ensures { IfOk result (IsTotal (state_in self.now) (counted_in self.now)) }
+    {
+        self.core.total()
     }
 
     // Carries the item of a line with this label out, and gathers what is written for it. Where there is no memory for
@@ -98,39 +117,54 @@ impl ReportingMonitor {
         ensures same { self.new ≡ record self.old { core = self.new.core; reporter = self.new.reporter } }
     {
         self.reporter.text.clear();
+        let label = self.label(parts.line, parts.tag, name_of(parts.session));
         match item {
             Item::Step(asked, step) => {
-                let head = StepHead {
-                    number: parts.line,
-                    tag: parts.tag,
-                    name: name_of(parts.session),
-                    format: reply_format(self.style.format, asked),
-                };
+                let head = self.head(parts.line, label, asked);
                 self.push_all(step, head)
             }
             Item::Sweep(asked) => {
-                let head = StepHead {
-                    number: parts.line,
-                    tag: parts.tag,
-                    name: None,
-                    format: reply_format(self.style.format, asked),
-                };
-                self.push_sweep(head)?;
+                let head = self.head(parts.line, label, asked);
+                self.push_sweep(head.named(None))?;
                 Ok(Change::Unchanged)
             }
             Item::BadLine(number) => {
-                push_labelled_bad_line(
-                    &mut self.reporter.text,
-                    number,
-                    self.style.format,
-                    parts.tag,
-                )?;
+                self.core.count_bad_line();
+                push_labelled_bad_line(&mut self.reporter.text, number, self.style.format, label)?;
                 Ok(Change::Unchanged)
             }
             Item::EndOfText => {
-                push_labelled_end(&mut self.reporter.text, self.style.format, parts.tag)?;
+                self.core.count_bad_line();
+                push_labelled_end(&mut self.reporter.text, self.style.format, label)?;
                 Ok(Change::Unchanged)
             }
+        }
+    }
+
+    // Returns what is put back into the replies to a line with this number, this tag and this name.
+    fn label<'a>(&self, number: u64, tag: Option<&'a [u8]>, name: Option<&'a [u8]>) -> Label<'a>
+        ensures { put_back_by result ≡ label_with self.now.style number (bytes_of tag.entry) (bytes_of name.entry) }
+    {
+        Label {
+            tag,
+            name,
+            line: if self.style.lines { Some(number) } else { None },
+            conversation: None,
+        }
+    }
+
+    // Returns the line of a step with this number and this label, which asks for this format.
+    fn head<'a>(&self, number: u64, label: Label<'a>, asked: Format) -> StepHead<'a>
+        ensures { line_of result ≡ record {
+          number = number;
+          label = put_back_by label.entry;
+          format = spec.reply_format self.now.style.format asked;
+        } }
+    {
+        StepHead {
+            number,
+            label,
+            format: reply_format(self.style.format, asked),
         }
     }
 
@@ -162,7 +196,7 @@ impl ReportingMonitor {
         if !self.style.closes {
             return None;
         }
-        completed(&self.core, judged, accepted)
+        completed(&self.core.core, judged, accepted)
     }
 
     // Makes the step, and reports its reply.
@@ -189,7 +223,7 @@ impl ReportingMonitor {
     {
         let noted = self.core.note_event(id, event);
         let accepted = noted.is_ok();
-        self.reporter.push_noted(&self.core, id, noted, head)?;
+        self.reporter.push_noted(&self.core.core, id, noted, head)?;
         Ok(Outcome {
             change: Change::Unchanged,
             accepted,
@@ -204,7 +238,8 @@ impl ReportingMonitor {
         match self.core.apply(Step::Turn { id }) {
             Reply::Judged { name, told, .. } => {
                 let turned = Turned { name, told };
-                self.reporter.push_turned(&self.core, id, turned, head)?;
+                self.reporter
+                    .push_turned(&self.core.core, id, turned, head)?;
                 Ok(Outcome {
                     change: Change::Unchanged,
                     accepted: true,
@@ -222,14 +257,14 @@ impl ReportingMonitor {
         }
     }
 
-    // Makes and reports turns of the stale conversations, by rising ids, until none is stale, and appends how many were.
-    // A turn that is refused ends the sweep, and nothing is appended behind its report.
+    // Makes and reports turns of the stale conversations, by rising ids, until none is stale, and appends how many
+    // were. A turn that is refused ends the sweep, and nothing is appended behind its report.
     fn push_sweep(&mut self, head: StepHead<'_>) -> Result<(), AllocError>
         ensures ok { OnOk result (MakesSweep head.entry self.old self.new) }
         ensures same { self.new ≡ record self.old { core = self.new.core; reporter = self.new.reporter } }
     {
         let alloc = *self.reporter.text.allocator();
-        let stale = stale_conversations(alloc, &self.core)?;
+        let stale = stale_conversations(alloc, &self.core.core)?;
         let ids = stale.as_slice();
         if !self.push_turns(ids, head)? {
             return Ok(());
@@ -238,7 +273,7 @@ impl ReportingMonitor {
             &mut self.reporter.text,
             ids.len() as u64,
             head.format,
-            head.tag,
+            head.label,
         )
     }
 
@@ -258,8 +293,8 @@ impl ReportingMonitor {
         Ok(true)
     }
 
-    // Makes and reports turns of the first stale conversation until it is not stale, or a turn is refused. Returns whether
-    // each turn was accepted.
+    // Makes and reports turns of the first stale conversation, by its name if it has one, until it is not stale, or a
+    // turn is refused. Returns whether each turn was accepted.
     fn push_turns_of(&mut self, id: u32, head: StepHead<'_>) -> Result<bool, AllocError>
         requires { IsFirstStale (state_in self.old) id }
         ensures ok { IfOk result (λ accepted. MakesTurns head.entry self.old self.new accepted) }
@@ -267,13 +302,15 @@ impl ReportingMonitor {
             (λ accepted. accepted ≡ true → RenewsConversation (state_in self.old) id (state_in self.new)) }
         ensures same { self.new ≡ record self.old { core = self.new.core; reporter = self.new.reporter } }
     {
+        let name = self.copied_name(id)?;
+        let turn = head.named(bytes_in(&name));
         let limit = self.enough_turns(id);
         for made in 0..limit {
-            let outcome = self.push_turn(id, head)?;
+            let outcome = self.push_turn(id, turn)?;
             if !outcome.accepted {
                 return Ok(false);
             }
-            if self.core.fresh_record(id).is_some() {
+            if self.core.core.fresh_record(id).is_some() {
                 return Ok(true);
             }
         }
@@ -281,11 +318,24 @@ impl ReportingMonitor {
         unreachable!()
     }
 
+    // Returns a copy of the conversation's name, if it has one.
+    fn copied_name(&self, id: u32) -> Result<Option<String>, AllocError>
+        ensures { IfOk result (λ name. IsNameOf (number_of self.now.names) id (option_map string_bytes name)) }
+    {
+        match self.names.name_of(id) {
+            Some(name) => {
+                let alloc = *self.reporter.text.allocator();
+                Ok(Some(String::from_str(alloc, name)?))
+            }
+            None => Ok(None),
+        }
+    }
+
     // Returns a number of turns that cover the log of the conversation: each turn judges at least one event.
     fn enough_turns(&self, id: u32) -> usize
         ensures { AreEnough (state_in self.now) id result }
     {
-        match self.core.view(id) {
+        match self.core.core.view(id) {
             Some((_, log)) => log.len() + 1,
             None => 1,
         }
@@ -316,8 +366,8 @@ impl ReportingMonitor {
         }
     }
 
-    // Notes the event of a line, and gathers what is written for its replies. Where there is no memory for this, nothing
-    // is gathered.
+    // Notes the event of a line, and gathers what is written for its replies. Where there is no memory for this,
+    // nothing is gathered.
     #[inline(always)]
     fn note_line(&mut self, line: ExchangeLine<'_>) -> Result<(), AllocError>
         requires { IsNumbersOf self.old.names (exchange_label line).session }
@@ -341,12 +391,8 @@ impl ReportingMonitor {
         if is_permitted(&noted) {
             return self.reporter.kept.add_line(id, number);
         }
-        let head = StepHead {
-            number,
-            tag,
-            name,
-            format: reply_format(self.style.format, Format::Line),
-        };
+        let label = self.label(number, tag, name);
+        let head = self.head(number, label, Format::Line);
         self.gather_noted(id, noted, head)
     }
 
@@ -374,7 +420,7 @@ impl ReportingMonitor {
         ensures same { self.new ≡ record self.old { reporter = self.new.reporter; gathered = self.new.gathered } }
     {
         self.reporter.text.clear();
-        self.reporter.push_noted(&self.core, id, noted, head)?;
+        self.reporter.push_noted(&self.core.core, id, noted, head)?;
         self.gathered.add_bytes(self.reporter.text.as_slice())
     }
 
@@ -394,12 +440,8 @@ impl ReportingMonitor {
             event,
             ..
         } = line;
-        let head = StepHead {
-            number,
-            tag,
-            name,
-            format: reply_format(self.style.format, Format::Line),
-        };
+        let label = self.label(number, tag, name);
+        let head = self.head(number, label, Format::Line);
         self.reporter.text.clear();
         let change = self.push_all(Step::Note { id, event }, head)?;
         self.release(name, change);
@@ -436,8 +478,8 @@ impl ReportingMonitor {
         self.names.remove(name);
     }
 
-    // Gives the name of the session, if there is one, its number where its conversation was opened, and takes it away where
-    // that was closed.
+    // Gives the name of the session, if there is one, its number where its conversation was opened, and takes it away
+    // where that was closed.
     fn rename(&mut self, session: Option<Session<'_>>, change: Change) -> Result<(), AllocError>
         requires { IsNumbersOf self.old.names (session_of session) }
         ensures same { self.new ≡ record self.old { names = self.new.names } }
@@ -480,17 +522,13 @@ fn name_of(session: Option<Session<'_>>) -> Option<&[u8]>
     }
 }
 
-// Returns the conversation of the step, if it has one.
-fn concerned(step: &Step) -> Option<u32>
-    ensures { result ≡ concerned step.now }
+// Returns the bytes of the name, if there is one.
+fn bytes_in(name: &Option<String>) -> Option<&[u8]>
+    ensures { bytes_of result ≡ option_map string_bytes name.now }
 {
-    match step {
-        Step::Put { .. } | Step::Withdraw { .. } | Step::Profile { .. } => None,
-        Step::Open { id, .. }
-        | Step::Note { id, .. }
-        | Step::Turn { id }
-        | Step::Ask { id }
-        | Step::Close { id } => Some(*id),
+    match name {
+        Some(name) => Some(name.as_bytes()),
+        None => None,
     }
 }
 

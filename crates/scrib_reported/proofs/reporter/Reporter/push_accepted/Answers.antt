@@ -1,4 +1,4 @@
-use Rattle.std.proofs.Common.{◌≡◌, ◌∙◌, ◌++◌, Option, ℕ, refl, sym, subst}
+use Rattle.std.proofs.Common.{◌≡◌, ◌∙◌, ◌++◌, Option, ℕ, sym, subst}
 use Rattle.scrib_core.specs.declared.reply.Reply.{Reply}
 use Rattle.scrib_reported.specs.declared.kept.KeptConversations.{KeptConversations}
 use Rattle.scrib_reported.specs.Kept.{IsKept, keeping, nothing_kept}

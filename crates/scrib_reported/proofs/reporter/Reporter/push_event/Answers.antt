@@ -3,7 +3,6 @@ use Rattle.std.proofs.lemmas.Result.{on_ok_weaker}
 use Rattle.scrib_types.specs.declared.event.Told.{Told}
 use Rattle.scrib_types.specs.declared.event.Told.TheVariants as tell
 use Rattle.scrib_types.specs.declared.event.Verdict.{Verdict}
-use Rattle.scrib_types.specs.declared.event.Verdict.TheVariants as verdict
 use Rattle.scrib_core.specs.Answers.{IsReportedIn}
 use Rattle.scrib_core.specs.Held.{state_of}
 use Rattle.scrib_core.specs.declared.reply.Reply.TheVariants as reply

@@ -1,5 +1,5 @@
 use Rattle.std.proofs.Common.{◌∙◌}
-use Rattle.scrib_core.specs.Held.{state_of}
+use Rattle.scrib_reported.specs.CountedCores.{state_of}
 use Rattle.scrib_core.specs.ReplyValues.{note_reply_of}
 use Rattle.scrib_reported.specs.Monitors.{state_in}
 use Rattle.scrib_reported.proofs.StepLemmas.{note_accepted, note_change, note_reported}
@@ -14,6 +14,7 @@ returns-clause-ok c = record {
   reply = note_reply_of c.args.id c.note_event-noted.result;
   answered = c.note_event-noted.ensures.answered;
   adds = c.in_ok-push_noted.ensures c.args.event;
+  counted = c.note_event-noted.ensures.counted;
   change_is = note_change c.args.id c.note_event-noted.result;
   accepted_is = c.is_ok-accepted.ensures.value ∙ note_accepted c.args.id c.note_event-noted.result;
 }
