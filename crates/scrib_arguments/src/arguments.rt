@@ -87,6 +87,18 @@ fn report_arg<'a>(alloc: Global) -> Arg<'a> {
     flag_arg(alloc, "report", help)
 }
 
+fn fail_arg<'a>(alloc: Global) -> Result<Arg<'a>, AllocError> {
+    let help =
+        "End with status 3 where there was an offence or a refusal, or a conversation is stale at the end; with --report";
+    flag_arg(alloc, "fail", help).requires_arg("report")
+}
+
+fn sweep_arg<'a>(alloc: Global) -> Result<Arg<'a>, AllocError> {
+    let help =
+        "Judge stale conversations again in front of each line, by at most 64 turns; not with --hold or --report";
+    flag_arg(alloc, "sweep", help).conflicts_with("report")
+}
+
 fn id_arg<'a>(alloc: Global) -> Arg<'a> {
     let help = "The conversation's number in the script; with --names its name";
     value_arg(alloc, "ID", help)
@@ -120,6 +132,12 @@ fn hold_arg<'a>(alloc: Global) -> Arg<'a> {
     Arg::new(alloc, "hold").long("hold").value_name("N").help(
         "Hold each event back until it may have happened, for at most N lines, 1 to 16777216",
     )
+}
+
+fn numbered_arg<'a>(alloc: Global) -> Result<Arg<'a>, AllocError> {
+    let help =
+        "Give each object the number of the line that it answers, and that of a refused step its conversation; with --json";
+    flag_arg(alloc, "lines", help).requires_arg("json")
 }
 
 // An argument of `watch` that `--hold` refuses.
@@ -194,9 +212,12 @@ fn watch_command<'a>(alloc: Global) -> Result<Command<'a>, AllocError> {
         .about("Runs a script of edits and events, and prints a line for each reply")
         .after_help(help::WATCH)
         .arg(json_arg(alloc))?
+        .arg(numbered_arg(alloc)?)?
         .arg(hold_arg(alloc))?
         .arg(unheld(report_arg(alloc))?)?
+        .arg(fail_arg(alloc)?)?
         .arg(unheld(close_complete_arg(alloc))?)?
+        .arg(unheld(sweep_arg(alloc)?)?)?
         .arg(names_arg(alloc))?
         .arg(tags_arg(alloc))?
         .arg(input_arg(alloc))?

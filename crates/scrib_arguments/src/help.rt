@@ -88,6 +88,7 @@ once, with its reason, its end after an edit, and a line that was refused:
   waits for A?hello()
   no offence any more in conversation 1, line 90: permitted
   refused in line 12, conversation 9: NoConversation
+Standard error has what the script came to at its end.
 `scribmon show --help` has the reasons.
 With --close-complete the reply to an event or a turn by which a conversation
 is complete is followed by that to a close of it.
@@ -99,6 +100,9 @@ With --input json each line is one JSON object, as in:
   {\"do\":\"send\",\"from\":\"A\",\"id\":1,\"message\":\"hello()\",\"to\":\"B\"}
   {\"do\":\"put\",\"text\":\"module demo; ..\"}
 These three go together, and with --report, --hold or --close-complete.
+With --sweep stale conversations are judged in front of each line, by at most 64
+turns, and standard error has how many they were.
+With --json --lines each object has the number of the line that it answers.
 
 Examples:
   scribmon watch examples/01_hello/receive_before_send.script
@@ -107,7 +111,8 @@ Examples:
 Exit status:
   0  the script was read to its end; refusals and offences are replies
   1  a read or write failed; memory ran out
-  2  the command line was refused\n";
+  2  the command line was refused
+  3  with --fail: there was an offence or a refusal, or a conversation is stale\n";
 
 // After the options of `hold`.
 pub(crate) const HOLD: &str = "\

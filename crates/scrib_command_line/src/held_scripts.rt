@@ -3,7 +3,7 @@
 ghost use Rattle.std.specs.Prelude.{◌<◌, ◌+◌, ◌^◌};
 
 use crate::outcomes::{flush_and_print_fault, refuse_value};
-use crate::request::{bound_of, format_of, labels_of, limits_of};
+use crate::request::{bound_of, format_of, labelled_style_of, labels_of, limits_of};
 use crate::run_command_line::Streams;
 use clap::ArgMatches;
 use scrib_cli::commands::fault::CommandFault;
@@ -46,14 +46,9 @@ pub(crate) fn watch_held<R: Files + AllocGlobal, I: Input, W: Write, E: Print + 
 
 // The replies that `watch --hold` writes.
 fn replies_of(matches: &ArgMatches<'_>) -> HeldOutput {
-    let format = format_of(matches);
-    match labels_of(matches) {
-        Some(labels) => HeldOutput::LabelledReplies(LabelledStyle {
-            labels,
-            closes: false,
-            format,
-        }),
-        None => HeldOutput::Replies(format),
+    match labelled_style_of(matches) {
+        Some(style) => HeldOutput::LabelledReplies(style),
+        None => HeldOutput::Replies(format_of(matches)),
     }
 }
 

@@ -4,7 +4,7 @@ ghost use Rattle.std.specs.Prelude.{◌<◌, ◌+◌, ◌^◌};
 
 use crate::held_scripts::open;
 use crate::outcomes::{flush_and_print_fault, refuse_value};
-use crate::request::{format_of, limits_of, session_key_of};
+use crate::request::{limits_of, session_key_of};
 use crate::run_command_line::Streams;
 use crate::subcommands::Report;
 use clap::ArgMatches;
@@ -22,12 +22,12 @@ use std::alloc::Global;
 use std::io::{Input, Read, Write};
 use std::rt::Files;
 
-// Runs `watch` over a script with these labels, and returns the exit status.
+// Runs `watch` over a script with labels in this style, and returns the exit status.
 pub(crate) fn watch_labelled<R: Files + AllocGlobal, I: Input, W: Write, E: Print + Eprint>(
     system: &R,
     streams: &mut Streams<'_, I, W, E>,
     matches: &ArgMatches<'_>,
-    labels: LabelOptions,
+    style: LabelledStyle,
 ) -> u8 {
     let files = SystemFiles {
         files: system,
@@ -36,11 +36,7 @@ pub(crate) fn watch_labelled<R: Files + AllocGlobal, I: Input, W: Write, E: Prin
     let script = open(&files, matches.get_str("FILE").unwrap_or("-"));
     let written = write_labelled(
         system.alloc(),
-        LabelledStyle {
-            labels,
-            closes: matches.get_flag("close-complete"),
-            format: format_of(matches),
-        },
+        style,
         limits_of(matches),
         script,
         streams.output,

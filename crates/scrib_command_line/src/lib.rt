@@ -12,3 +12,4 @@ pub mod run_command_line;
 mod run_files;
 mod show;
 mod subcommands;
+mod sweeping_scripts;

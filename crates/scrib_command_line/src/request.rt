@@ -6,7 +6,7 @@ use clap::ArgMatches;
 use scrib_cli::id::id_of;
 use scrib_cli::role_query::{Form, RoleQuery};
 use scrib_core::format::Format;
-use scrib_labelled::label_options::LabelOptions;
+use scrib_labelled::label_options::{LabelOptions, LabelledStyle};
 use scrib_labelled::session_key::SessionKey;
 use scrib_labels::session_name::is_session_name;
 use scrib_run_service::shape::{Shape, ShapeFault};
@@ -37,7 +37,7 @@ pub(crate) fn limits_of(matches: &ArgMatches) -> Limits
 }
 
 // How the lines of the script are spelled.
-pub(crate) fn spelling_of(matches: &ArgMatches) -> LabelOptions {
+fn spelling_of(matches: &ArgMatches) -> LabelOptions {
     LabelOptions {
         tags: matches.get_flag("tags"),
         names: matches.get_flag("names"),
@@ -50,6 +50,26 @@ pub(crate) fn labels_of(matches: &ArgMatches) -> Option<LabelOptions> {
     let labels = spelling_of(matches);
     if labels.tags || labels.names || labels.objects {
         Some(labels)
+    } else {
+        None
+    }
+}
+
+// How `watch` runs a script whose lines are spelled so.
+pub(crate) fn style_of(matches: &ArgMatches) -> LabelledStyle {
+    LabelledStyle {
+        labels: spelling_of(matches),
+        closes: matches.get_flag("close-complete"),
+        format: format_of(matches),
+        lines: matches.get_flag("lines"),
+    }
+}
+
+// The same, where the script is not one of plain lines, or its replies have the numbers of lines.
+pub(crate) fn labelled_style_of(matches: &ArgMatches) -> Option<LabelledStyle> {
+    let style = style_of(matches);
+    if style.lines || labels_of(matches).is_some() {
+        Some(style)
     } else {
         None
     }

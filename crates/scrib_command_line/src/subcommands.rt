@@ -5,9 +5,12 @@ use crate::held_scripts::watch_held;
 use crate::labelled_scripts::{report_labelled, watch_labelled};
 use crate::outcomes::{flush_and_print_fault, refuse_value};
 use crate::reported_scripts::watch_reported;
-use crate::request::{format_of, labels_of, limits_of, number_of, profile_of, query_of, shape_of};
+use crate::request::{
+    format_of, labelled_style_of, labels_of, limits_of, number_of, profile_of, query_of, shape_of,
+};
 use crate::run_command_line::Streams;
 use crate::run_files::{RunScripts, run_files};
+use crate::sweeping_scripts::watch_sweeping;
 use clap::ArgMatches;
 use scrib_cli::commands::check::check_files;
 use scrib_cli::commands::explain::explain;
@@ -78,8 +81,11 @@ pub(crate) fn run_watch<R: Files + AllocGlobal, I: Input, W: Write, E: Print + E
     if matches.get_flag("report") {
         return watch_reported(system, streams, matches);
     }
-    if let Some(labels) = labels_of(matches) {
-        return watch_labelled(system, streams, matches, labels);
+    if matches.get_flag("sweep") {
+        return watch_sweeping(system, streams, matches);
+    }
+    if let Some(style) = labelled_style_of(matches) {
+        return watch_labelled(system, streams, matches, style);
     }
     if matches.get_flag("close-complete") {
         return watch_closing(system, streams, matches);
