@@ -99,6 +99,8 @@ fn tags_and_names_are_put_back(rt: HostRuntime) -> Result<(), Fail> {
     let label = Label {
         tag: Some(b"17"),
         name: Some(b"order-8f3a"),
+        line: None,
+        conversation: None,
     };
     for (line, expected) in REPLIES {
         let mut labelled = Vec::new(rt.alloc());

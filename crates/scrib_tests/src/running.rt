@@ -121,6 +121,7 @@ fn style_of(labels: LabelOptions, closes: bool) -> LabelledStyle {
         labels,
         closes,
         format: Format::Line,
+        lines: false,
     }
 }
 

@@ -6,7 +6,7 @@ use scrib_script_reader::line::{Line, line_of};
 use scrib_summary::open_verdicts::count_open;
 use scrib_summary::verdict_counts::VerdictCounts;
 use scrib_sweep::stale::stale_conversations;
-use scrib_sweep::sweep::sweep;
+use scrib_sweep::sweep::{Progress, sweep, sweep_some};
 use scrib_types::containers::Items;
 use std::alloc::{AllocError, Global};
 use std::test::Fail;
@@ -74,6 +74,29 @@ fn a_sweep_judges_each_stale_conversation(rt: HostRuntime) -> Result<(), Fail> {
     assert_eq!(rt; sweep(alloc, &mut core)?, 4);
     assert_eq!(rt; stale_conversations(alloc, &core)?.len(), 0);
     assert_eq!(rt; sweep(alloc, &mut core)?, 0);
+    Ok(())
+}
+
+// The first conversation has a log of 65 turns. A part of a sweep makes 64, so it judges none of the two.
+#[test]
+fn a_part_of_a_sweep_makes_64_turns(rt: HostRuntime) -> Result<(), Fail> {
+    let alloc = rt.alloc();
+    let mut core = stale_after(alloc, 8_200)?;
+    let stale = stale_conversations(alloc, &core)?;
+    let Progress {
+        judged,
+        left,
+        refused,
+    } = sweep_some(&mut core, stale.as_slice());
+    assert_eq!(rt; (judged, refused), (0, false));
+    assert_eq!(rt; left, [1u32, 2].as_slice());
+    let Progress {
+        judged,
+        left,
+        refused,
+    } = sweep_some(&mut core, left);
+    assert_eq!(rt; (judged, refused), (2, false));
+    assert_eq!(rt; left.len(), 0);
     Ok(())
 }
 
