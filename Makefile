@@ -5,7 +5,7 @@ PREFIX ?= /usr/local
 PROGRAM = crates/scribmon/out/scribmon
 ROWS = crates/scrib_examples/out/scrib_examples
 # Crates that are not part of the program.
-UNNEEDED = scrib_examples scrib_tests scrib_sweep scrib_summary
+UNNEEDED = scrib_examples scrib_tests
 
 .DEFAULT_GOAL := help
 .PHONY: help run try build install test checks bench prove example examples
@@ -25,7 +25,7 @@ try: run ## the same as run
 # their own, until the last run waits for what is still being proved.
 CHAIN = scrib_elaborate scrib_shards scrib_run_service
 BESIDE = scrib_parser scrib_record scrib_global scrib_hold_stage scrib_arguments
-LAST = scrib_cli scrib_closing scrib_labelled scrib_hold_lines scrib_held_labels scrib_offences scrib_findings scrib_reported
+LAST = scrib_cli scrib_closing scrib_labelled scrib_hold_lines scrib_held_labels scrib_hold_labelled scrib_offences scrib_findings scrib_sweeping scrib_reported
 
 build: ## proves and builds crates/scribmon/out/scribmon: 30 to 40 minutes on four processors
 	@work=$$(mktemp -d) && trap 'rm -rf "$$work"' EXIT && \
@@ -69,6 +69,7 @@ checks: ## tries the built programs outside the gate: some ten minutes
 	$(PYTHON) checks/held_logs.py
 	$(PYTHON) checks/next_prefixes.py
 	$(PYTHON) checks/closed_logs.py
+	$(PYTHON) checks/swept_logs.py
 	$(PYTHON) checks/labelled_logs.py
 	$(PYTHON) checks/object_logs.py
 	$(PYTHON) checks/generated_logs.py | $(PROGRAM) watch --json | $(PYTHON) checks/json_lines.py
