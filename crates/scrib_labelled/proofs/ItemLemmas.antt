@@ -17,8 +17,8 @@ use Rattle.scrib_core.specs.declared.reply.Reply.TheVariants as reply
 use Rattle.scrib_core.specs.declared.step.Step.{Step}
 use Rattle.scrib_core.specs.declared.step.Step.TheVariants as step
 use Rattle.scrib_report.specs.LabelledReplies.{labelled_reply}
-use Rattle.scrib_report.specs.PutBack.{ReplyLabel, bytes_of}
-use Rattle.scrib_report.specs.ReplyTexts.{reply_format}
+use Rattle.scrib_report.specs.PutBack.{ReplyLabel, bytes_of, labelled_line}
+use Rattle.scrib_report.specs.ReplyTexts.{reply_format, reply_text}
 use Rattle.scrib_script_reader.specs.declared.item.Item.{Item}
 use Rattle.scrib_script_reader.specs.declared.item.Item.TheVariants as item
 use Rattle.scrib_cli.specs.declared.gathered.Gathered.{Gathered}
@@ -32,7 +32,7 @@ use Rattle.scrib_labelled.specs.declared.labelled_monitor.LabelledMonitor.{Label
 use Rattle.scrib_labelled.specs.declared.named_monitor.NamedMonitor.{NamedMonitor}
 use Rattle.scrib_labelled.specs.ExchangeLines.{named_id}
 use Rattle.scrib_labelled.specs.LabelledLines.{LineLabel}
-use Rattle.scrib_labelled.specs.LabelledRuns.{ClosesBehind, Naming, Takes, after_replies, after_reply, of_step, put_back, session_name}
+use Rattle.scrib_labelled.specs.LabelledRuns.{ClosesBehind, Naming, Takes, after_replies, after_reply, labelled_replies, of_step, put_back, session_name}
 use Rattle.scrib_labelled.specs.Behind.{CarriesOut}
 use Rattle.scrib_labelled.specs.Changes.{IsChangeBy, NotesEvent, TakesItem, after_change, change_by}
 
@@ -253,6 +253,31 @@ label_with tag name line = record { tag = tag; name = name; line = line; convers
 pub put_back_is : (o : LabelledStyle) (label : LineLabel) (name : Option (List ℕ)) (line : Option ℕ) → name ≡ session_name label.session → line ≡ cond o.lines (Some label.line) None → label_with label.tag name line ≡ put_back o label
 put_back_is o label name line same-name same-line =
     ap (λ (n : Option (List ℕ)). label_with label.tag n line) same-name ∙ ap (λ (n : Option ℕ). label_with label.tag (session_name label.session) n) same-line
+
+-- lines of text have no numbers: a tag and a name are all that is put back into them
+pub same_line : (l m : ReplyLabel) → l.tag ≡ m.tag → l.name ≡ m.name → (r : Reply) → labelled_reply format.Line l r ≡ labelled_reply format.Line m r
+same_line l m tag name r =
+    ap (λ (t : Option (List ℕ)). labelled_line t l.name (reply_text format.Line r)) tag ∙ ap (λ (n : Option (List ℕ)). labelled_line m.tag n (reply_text format.Line r)) name
+
+same-lines : (l m : ReplyLabel) → l.tag ≡ m.tag → l.name ≡ m.name → (rs : List Reply) → labelled_replies format.Line l rs ≡ labelled_replies format.Line m rs
+same-lines l m tag name [] = refl
+same-lines l m tag name (r ∷ rs) =
+    ap (λ (t : List ℕ). t ++ labelled_replies format.Line l rs) (same_line l m tag name r) ∙ ap (λ (t : List ℕ). labelled_reply format.Line m r ++ t) (same-lines l m tag name rs)
+
+-- so a note whose replies are lines of text has each label with this tag and this name
+pub notes_as : (old new : LabelledMonitor) (l m : ReplyLabel) (id : ℕ) (e : Event) (c : Change) → old.style.format ≡ format.Line → l.tag ≡ m.tag → l.name ≡ m.name → NotesEvent old new l id e c → NotesEvent old new m id e c
+notes_as old new l m id e c lines tag name h =
+    let s = step.Note id e in
+    let t = h.takes.takes in
+    let same : labelled_replies (reply_format old.style.format format.Line) (of_step l s) h.takes.replies ≡ labelled_replies (reply_format old.style.format format.Line) (of_step m s) h.takes.replies =
+    subst (λ (f : Format). labelled_replies (reply_format f format.Line) (of_step l s) h.takes.replies ≡ labelled_replies (reply_format f format.Line) (of_step m s) h.takes.replies) (sym lines)
+    (same-lines (of_step l s) (of_step m s) tag name h.takes.replies) in
+    record {
+      text = h.text;
+      takes = record { style = h.takes.style; replies = h.takes.replies; takes = (t.0, t.1, t.2, t.3, t.4, t.5, t.6 ∙ same); changes = h.takes.changes; memory = h.takes.memory };
+      opens = h.opens;
+      grows = h.grows;
+    }
 
 -- ---- any item
 

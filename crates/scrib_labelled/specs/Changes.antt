@@ -45,6 +45,10 @@ pub record NotesEvent (old new : LabelledMonitor) (l : ReplyLabel) (id : ℕ) (e
   pub opens : c ≢ change.Opened
   pub grows : new.gathered.bytes.items ≡ old.gathered.bytes.items ++ text
 
+-- what is put back into the lines of a text, which have no numbers
+abbrev pub put_back_in_text : (tag name : Option (List ℕ)) → ReplyLabel
+put_back_in_text tag name = record { tag = tag; name = name; line = None; conversation = None }
+
 -- the numbers of names behind a change in the conversation of a session
 abbrev pub after_change : Naming → Option (List ℕ × ℕ) → Change → Naming
 after_change names None c = names

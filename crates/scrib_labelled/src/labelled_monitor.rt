@@ -1,11 +1,12 @@
 //! Carries out the entries of a script, and gathers their replies with the labels of their lines.
 
 ghost use Rattle.std.specs.Prelude.{◌≡◌};
-ghost use Rattle.scrib_report.specs.PutBack.{put_back_by};
-ghost use Rattle.scrib_labelled.specs.Changes.{change_by};
+ghost use Rattle.scrib_report.specs.PutBack.{bytes_of, put_back_by};
+ghost use Rattle.scrib_labelled.specs.Changes.{change_by, put_back_in_text};
 ghost use Rattle.scrib_labelled.specs.LabelledRuns.{concerned, of_step};
 
 use crate::checked_core::CheckedCore;
+use crate::exchange_line::ExchangeLine;
 use crate::label_options::LabelledStyle;
 use scrib_cli::gathered::Gathered;
 use scrib_closing::completion::{completed, is_accepted, is_send, judged_by};
@@ -57,13 +58,14 @@ impl LabelledMonitor {
     ghost use Rattle.scrib_core.specs.declared.step.Step.TheVariants.{Close};
     ghost use Rattle.scrib_report.specs.LabelledReplies.{labelled_reply};
     ghost use Rattle.scrib_report.specs.PutBack as spec;
-    ghost use Rattle.scrib_report.specs.PutBack.{put_back_by, tag_of};
+    ghost use Rattle.scrib_report.specs.PutBack.{bytes_of, put_back_by};
     ghost use Rattle.scrib_report.specs.ReplyTexts.{reply_format};
     ghost use Rattle.scrib_sweep.specs.Sweeps.{IsSwept};
     ghost use Rattle.scrib_script_reader.specs.declared.item.Item.TheVariants as item;
     ghost use Rattle.scrib_closing.specs.ClosingScripts.{is_send};
-    ghost use Rattle.scrib_labelled.specs.LabelledRuns.{Takes, labelled_sweep};
-    ghost use Rattle.scrib_labelled.specs.Changes.{IsChangeBy, NotesEvent, TakesItem, change_by};
+    ghost use Rattle.scrib_labelled.specs.ExchangeLines.{exchange_label};
+    ghost use Rattle.scrib_labelled.specs.LabelledRuns.{Takes, labelled_sweep, put_back};
+    ghost use Rattle.scrib_labelled.specs.Changes.{IsChangeBy, NotesEvent, TakesItem, change_by, put_back_in_text};
     ghost use Rattle.scrib_labelled.specs.declared.labelled_monitor.Change.TheVariants as change;
 
     /// Returns a new monitor.
@@ -208,36 +210,45 @@ impl LabelledMonitor {
         Ok(change_by(&reply))
     }
 
-    /// Notes the event, and gathers its reply with this label. `tag_text` is what a line of text begins with for the
-    /// tag. Where the conversation is complete then and is to be closed, closes it and gathers this reply too. Returns
-    /// what changed.
+    /// Notes the event of the line, and gathers its reply with the line's label. Where the conversation is complete then
+    /// and is to be closed, closes it and gathers this reply too. Returns what changed.
     ///
     /// # Errors
     /// `AllocError` where there is no memory for the text. The gathered texts are then unchanged.
     #[inline(always)]
-    pub fn note(
-        &mut self,
-        id: u32,
-        event: SharedEvent,
-        label: Label<'_>,
-        tag_text: &[u8],
-    ) -> Result<Change, AllocError>
-        requires { tag_text.now ≡ spec.tag_text (tag_of label) }
-        ensures ok { IfOk result (NotesEvent self.old self.new (put_back_by label.entry) id event) }
+    pub fn note(&mut self, line: ExchangeLine<'_>) -> Result<Change, AllocError>
+        requires { line.tag_text.now ≡ spec.tag_text (bytes_of line.tag) }
+        ensures ok { IfOk result (NotesEvent self.old self.new (put_back self.old.style (exchange_label line.entry))
+            line.entry.id line.entry.event) }
         ensures err { OnErr result (self.new.gathered.bytes.items ≡ self.old.gathered.bytes.items) }
     {
+        let ExchangeLine {
+            line: number,
+            tag,
+            tag_text,
+            name,
+            id,
+            event,
+            ..
+        } = line;
         if !self.prints_lines() {
+            let label = Label {
+                tag,
+                name,
+                line: self.printed(number),
+                conversation: None,
+            };
             return self.note_as_object(id, event, label);
         }
         if self.may_close(&event) {
-            return self.note_and_close(id, event, label, tag_text);
+            return self.note_and_close(id, event, tag, ReplyHead { tag_text, name });
         }
         let noted = self.core.note_event(id, event);
-        self.gather_noted(id, noted, label, tag_text)?;
+        self.gather_noted(id, noted, tag, ReplyHead { tag_text, name })?;
         Ok(Change::Unchanged)
     }
 
-    // The same as `note`, where replies are printed as objects.
+    // The same as `note`, where replies are printed as objects with this label.
     #[inline(never)]
     fn note_as_object(
         &mut self,
@@ -263,31 +274,33 @@ impl LabelledMonitor {
         self.style.closes && !is_send(event)
     }
 
-    // The same as `note`, where complete conversations are closed.
+    // Notes the event, and gathers its reply as a line of text with this tag and this head. Where the conversation is
+    // complete then, closes it and gathers this reply too. Returns what changed.
     #[inline(never)]
     fn note_and_close(
         &mut self,
         id: u32,
         event: SharedEvent,
-        label: Label<'_>,
-        tag_text: &[u8],
+        tag: Option<&[u8]>,
+        head: ReplyHead<'_>,
     ) -> Result<Change, AllocError>
-        requires tag { tag_text.now ≡ spec.tag_text (tag_of label) }
+        requires tag { head.tag_text.now ≡ spec.tag_text (bytes_of tag) }
         requires lines { self.old.style.format ≡ format.Line }
         requires closes { self.old.style.closes ≡ true }
-        ensures ok { IfOk result (NotesEvent self.old self.new (put_back_by label.entry) id event) }
+        ensures ok { IfOk result
+            (NotesEvent self.old self.new (put_back_in_text (bytes_of tag.entry) (bytes_of head.entry.name)) id event) }
         ensures err { OnErr result (self.new.gathered.bytes.items ≡ self.old.gathered.bytes.items) }
     {
         match self.core.core.note_and_test(id, event) {
             Ok(Tested { noted, complete }) => {
                 if complete {
-                    return self.gather_closing(id, noted, label);
+                    return self.gather_closing(id, noted, text_label(tag, head.name));
                 }
-                self.gather_noted(id, Ok(noted), label, tag_text)?;
+                self.gather_noted(id, Ok(noted), tag, head)?;
                 Ok(Change::Unchanged)
             }
             Err(refusal) => {
-                self.gather_noted(id, Err(refusal), label, tag_text)?;
+                self.gather_noted(id, Err(refusal), tag, head)?;
                 Ok(Change::Unchanged)
             }
         }
@@ -324,21 +337,22 @@ impl LabelledMonitor {
         Ok(change)
     }
 
-    // Gathers the reply to a note with this outcome as a line of text with this label. After an error the gathered
-    // texts are unchanged.
+    // Gathers the reply to a note with this outcome as a line of text with this tag and this head. After an error the
+    // gathered texts are unchanged.
     #[inline(always)]
     fn gather_noted(
         &mut self,
         id: u32,
         noted: Result<Noted, Refusal>,
-        label: Label<'_>,
-        tag_text: &[u8],
+        tag: Option<&[u8]>,
+        head: ReplyHead<'_>,
     ) -> Result<(), AllocError>
-        requires { tag_text.now ≡ spec.tag_text (tag_of label) }
+        requires { head.tag_text.now ≡ spec.tag_text (bytes_of tag) }
         ensures core { self.new.core ≡ self.old.core }
         ensures style { self.new.style ≡ self.old.style }
         ensures ok { OnOk result (self.new.gathered.bytes.items ≡ self.old.gathered.bytes.items
-            ++ labelled_reply format.Line (put_back_by label.entry) (note_reply_of id noted)) }
+            ++ labelled_reply format.Line (put_back_in_text (bytes_of tag.entry) (bytes_of head.entry.name))
+            (note_reply_of id noted)) }
         ensures err { OnErr result (self.new.gathered.bytes.items ≡ self.old.gathered.bytes.items) }
     {
         match noted {
@@ -348,28 +362,27 @@ impl LabelledMonitor {
                     place,
                     told: Told::Judged(Verdict::Permitted),
                 },
-            ) => {
-                let head = ReplyHead {
-                    tag_text,
-                    name: label.name,
-                };
-                self.gathered.add_headed_permitted(id, place as u64, head)
-            }
-            noted => self.gather_line(&note_reply(id, noted), label),
+            ) => self.gathered.add_headed_permitted(id, place as u64, head),
+            noted => self.gather_line(&note_reply(id, noted), tag, head.name),
         }
     }
 
-    // Gathers the line of the reply with this label.
+    // Gathers the line of the reply with this tag and this name.
     #[inline(never)]
-    fn gather_line(&mut self, reply: &Reply, label: Label<'_>) -> Result<(), AllocError>
+    fn gather_line(
+        &mut self,
+        reply: &Reply,
+        tag: Option<&[u8]>,
+        name: Option<&[u8]>,
+    ) -> Result<(), AllocError>
         ensures core { self.new.core ≡ self.old.core }
         ensures style { self.new.style ≡ self.old.style }
         ensures ok { OnOk result (self.new.gathered.bytes.items ≡ self.old.gathered.bytes.items
-            ++ labelled_reply format.Line (put_back_by label.entry) reply.now) }
+            ++ labelled_reply format.Line (put_back_in_text (bytes_of tag.entry) (bytes_of name.entry)) reply.now) }
         ensures err { OnErr result (self.new.gathered.bytes.items ≡ self.old.gathered.bytes.items) }
     {
         self.text.clear();
-        push_labelled_reply(&mut self.text, reply, Format::Line, label)?;
+        push_labelled_reply(&mut self.text, reply, Format::Line, text_label(tag, name))?;
         self.gather()
     }
 
@@ -403,6 +416,18 @@ fn change_by(reply: &Reply) -> Change
         Reply::Opened { .. } => Change::Opened,
         Reply::Closed { .. } => Change::Closed,
         _ => Change::Unchanged,
+    }
+}
+
+// Returns the label of a reply that is printed as a line of text. Such lines have no numbers.
+fn text_label<'a>(tag: Option<&'a [u8]>, name: Option<&'a [u8]>) -> Label<'a>
+    ensures { put_back_by result ≡ put_back_in_text (bytes_of tag.entry) (bytes_of name.entry) }
+{
+    Label {
+        tag,
+        name,
+        line: None,
+        conversation: None,
     }
 }
 

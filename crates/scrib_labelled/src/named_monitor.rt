@@ -90,22 +90,8 @@ impl NamedMonitor {
         ensures err { OnErr result
             (self.new.monitor.gathered.bytes.items ≡ self.old.monitor.gathered.bytes.items) }
     {
-        let ExchangeLine {
-            line: number,
-            tag,
-            tag_text,
-            name,
-            id,
-            event,
-            ..
-        } = line;
-        let label = Label {
-            tag,
-            name,
-            line: self.monitor.printed(number),
-            conversation: None,
-        };
-        let change = self.monitor.note(id, event, label, tag_text)?;
+        let name = line.name;
+        let change = self.monitor.note(line)?;
         match change {
             Change::Closed => self.forget(name),
             Change::Opened | Change::Unchanged => {}
