@@ -1,4 +1,5 @@
-"""What the scripts share that write a part of a document from the sources: definitions.py and layers.py.
+"""What the scripts share that write a part of a document from the sources: definitions.py, layers.py and
+refusals.py.
 
 The part is between two marks, which name its script.
 """
