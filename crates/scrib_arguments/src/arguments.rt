@@ -181,6 +181,22 @@ fn check_command<'a>(alloc: Global) -> Result<Command<'a>, AllocError> {
         .arg(files_arg(alloc))
 }
 
+fn list_command<'a>(alloc: Global) -> Result<Command<'a>, AllocError> {
+    Command::new(alloc, "list")
+        .about("Prints the protocols of modules with their roles")
+        .after_help(help::LIST)
+        .arg(json_arg(alloc))?
+        .arg(files_arg(alloc))
+}
+
+fn why_command<'a>(alloc: Global) -> Result<Command<'a>, AllocError> {
+    let kind = Arg::new(alloc, "KIND").help("The word behind `refused`, as Unmergeable");
+    Command::new(alloc, "why")
+        .about("Explains a kind of refusal: when it comes, an example, and its cure")
+        .after_help(help::WHY)
+        .arg(kind)
+}
+
 // A command on a role of a protocol of some modules.
 fn role_command<'a>(
     alloc: Global,
@@ -302,18 +318,20 @@ fn with_command<'a>(
 // Adds the commands that read modules.
 fn with_module_commands<'a>(alloc: Global, line: Command<'a>) -> Result<Command<'a>, AllocError> {
     let line = with_command(line, check_command(alloc))?;
+    let line = with_command(line, list_command(alloc))?;
     let line = with_command(line, project_command(alloc))?;
     with_command(line, machine_command(alloc))
 }
 
-// Adds the commands that read a script.
+// Adds the commands that read a script, and the one that explains refusals.
 fn with_script_commands<'a>(alloc: Global, line: Command<'a>) -> Result<Command<'a>, AllocError> {
     let line = with_command(line, watch_command(alloc))?;
     let line = with_command(line, hold_command(alloc))?;
     let line = with_command(line, explain_command(alloc))?;
     let line = with_command(line, next_command(alloc))?;
     let line = with_command(line, show_command(alloc))?;
-    with_command(line, run_command(alloc))
+    let line = with_command(line, run_command(alloc))?;
+    with_command(line, why_command(alloc))
 }
 
 /// Returns the command line of the program: its commands, their options and their help.

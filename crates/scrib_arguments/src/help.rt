@@ -8,8 +8,9 @@ A FILE may be - for standard input.
 Exit status:
   0  the command did what it was to do; replies of watch and run that are
      refusals or offences count as done
-  1  check, project, machine, explain, next or show printed a refusal; a read
-     or write failed; memory ran out (a line on standard error names the cause)
+  1  check, list, project, machine, explain, next or show printed a refusal;
+     why had another word; a read or write failed; memory ran out (a line on
+     standard error names the cause)
   2  the command line was refused
   141  the reader of the output has gone\n";
 
@@ -27,6 +28,25 @@ Example:
 Exit status:
   0  all modules were accepted
   1  one was refused; a file could not be read; memory ran out
+  2  the command line was refused\n";
+
+// After the options of `list`.
+pub(crate) const LIST: &str = "\
+Prints a line for each protocol, in the order of the text: its full name, and
+its roles as they are declared. Of a text that is no module it prints why:
+  orders.Order Client Orders Payment Stock
+  refused EndOfText
+With --json:
+  {\"protocol\":\"orders.Order\",\"roles\":[\"Client\",\"Orders\"]}
+  {\"refused\":\"EndOfText\"}
+Only the text is read: `scribmon check` looks for all other faults.
+
+Example:
+  scribmon list examples/02_two_buyer/two_buyer.scr
+
+Exit status:
+  0  all texts are modules
+  1  one is no module; a file could not be read; memory ran out
   2  the command line was refused\n";
 
 // After the options of `project`.
@@ -222,4 +242,18 @@ Exit status:
      end has `read fault` as its last line
   1  a file could not be opened; SETUP could not be read; a write failed; memory
      ran out
+  2  the command line was refused\n";
+
+// After the options of `why`.
+pub(crate) const WHY: &str = "\
+Prints when a refusal comes, the smallest example that gives it, what is printed
+of it, and its cure. A KIND is the word behind `refused`, or the reason of an
+offence. Without one, and with another word, it prints all of them.
+
+Example:
+  scribmon why Unmergeable
+
+Exit status:
+  0  the kind or the list was printed
+  1  the word is no kind; the write failed; memory ran out
   2  the command line was refused\n";

@@ -4,6 +4,7 @@
 mod closing_scripts;
 mod held_scripts;
 mod labelled_scripts;
+mod list_files;
 mod outcomes;
 pub mod pipe_output;
 mod reported_scripts;
@@ -13,3 +14,4 @@ mod run_files;
 mod show;
 mod subcommands;
 mod sweeping_scripts;
+mod why;

@@ -7,6 +7,7 @@ use crate::outcomes::{
 pub use crate::pipe_output::PipeOutput;
 use crate::show::show;
 use crate::subcommands::{Report, report_by_id, run_over_service, run_simple_command, run_watch};
+use crate::why::write_why;
 use clap::ArgMatches;
 use scrib_arguments::arguments::command;
 use scrib_cli::commands::fault::CommandFault;
@@ -65,7 +66,11 @@ where
 {
     match matches.subcommand() {
         Some(("run", matches)) => run_over_service(system, streams, matches),
-        Some((name @ ("check" | "project" | "machine"), matches)) => {
+        Some(("why", matches)) => {
+            let outcome = write_why(system.alloc(), matches.get_str("KIND"), streams.output);
+            flush_and_print_fault(streams, &outcome)
+        }
+        Some((name @ ("check" | "list" | "project" | "machine"), matches)) => {
             let outcome = run_simple_command(system, streams, name, matches);
             flush_and_print_fault(streams, &outcome)
         }

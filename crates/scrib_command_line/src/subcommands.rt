@@ -3,6 +3,7 @@
 use crate::closing_scripts::watch_closing;
 use crate::held_scripts::watch_held;
 use crate::labelled_scripts::{report_labelled, watch_labelled};
+use crate::list_files::list_files;
 use crate::outcomes::{flush_and_print_fault, refuse_value};
 use crate::reported_scripts::watch_reported;
 use crate::request::{
@@ -29,7 +30,7 @@ use std::rt::Files;
 use std::sync::Wait;
 use std::thread::Threads;
 
-// Runs `check`, `project`, `machine` or `watch`, whose words need no checks. Returns whether no refusal was printed.
+// Runs `check`, `list`, `project`, `machine` or `watch`, whose words need no checks. Returns whether no refusal was printed.
 pub(crate) fn run_simple_command<'a, R: Files + AllocGlobal, I: Input, W: Write, E>(
     system: &R,
     streams: &mut Streams<'_, I, W, E>,
@@ -44,6 +45,7 @@ pub(crate) fn run_simple_command<'a, R: Files + AllocGlobal, I: Input, W: Write,
     let paths = matches.get_strs("FILE").unwrap_or(&[]);
     match name {
         "check" => check_files(alloc, profile_of(matches), &files, paths, streams.output),
+        "list" => list_files(alloc, format_of(matches), &files, paths, streams.output),
         "project" => {
             let query = query_of(matches, Form::Text);
             query_files(alloc, &query, &files, paths, streams.output)
