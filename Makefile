@@ -5,7 +5,7 @@ PREFIX ?= /usr/local
 PROGRAM = crates/scribmon/out/scribmon
 ROWS = crates/scrib_examples/out/scrib_examples
 # Crates that are not part of the program.
-UNNEEDED = scrib_examples scrib_tests
+UNNEEDED = scrib_examples scrib_tests scrib_partition
 
 .DEFAULT_GOAL := help
 .PHONY: help run try build install test checks bench prove example examples
@@ -50,6 +50,7 @@ test: ## the gate: everything from nothing, over an hour
 	$(PYTHON) checks/examples.py check
 	$(PYTHON) checks/definitions.py check
 	$(PYTHON) checks/layers.py check
+	$(PYTHON) checks/refusals.py check
 	$(RT) ci
 
 examples: ## proves and builds the program of the worked examples, and runs them
@@ -64,6 +65,7 @@ prove: ## proves one crate, CRATE=.., over what earlier checks kept
 
 checks: ## tries the built programs outside the gate: some ten minutes
 	$(PYTHON) checks/documents.py
+	$(PYTHON) checks/refusal_examples.py
 	$(PYTHON) checks/held_pipe.py
 	$(PYTHON) checks/stream_ends.py
 	$(PYTHON) checks/held_logs.py
