@@ -9,6 +9,7 @@
    and with two monitors of one partition: also then, and each node's copy of each stream must have the same bytes.
 3. 300 right sessions, whose services are processes that don't wait for each other: no reply may be an offence, and each
    session must be complete. Without `--hold` there must be offences, or the trial shows nothing.
+4. The first part over Kafka's engine, on the mock brokers of its client library.
 
 It uses examples/cluster, and takes at most ten minutes. It starts all that it uses, on loopback, in a folder of its own
 under the system's temporary folder, and stops it by its pids. Status: 0 fine; 1 something is wrong; 2 a bad command
@@ -50,6 +51,7 @@ from records import Line, Stream, Streams
 from workload import GATEWAY, MODULES, Report, Session, by_service, make_sessions, mixed, module_text
 
 LIMIT_SECONDS = 600
+SIGNALS = (signal.SIGALRM, signal.SIGTERM, signal.SIGINT)
 PARTITIONS, HOLD = 4, 100_000
 WAVES, WAVE_SESSIONS = 5, 100
 RIGHT_SESSIONS, LINES_A_MESSAGE = 300, 10
@@ -96,7 +98,6 @@ class Trial:
     sink: SinkProcess = field(init=False)
 
     def __post_init__(self) -> None:
-        self.engine.create(self.settings.streams.all())
         self.adapters = Adapters(self.settings, self.places)
         self.sink = SinkProcess(self.settings)
         self.adapters.start()
@@ -327,29 +328,36 @@ def started(settings: Settings, places: List[Tuple[int, int]]) -> Iterator[Trial
         trial.engine.close()
 
 
-def finish_trial(trial: Trial, services: Services, cluster: Cluster) -> None:
+def finish_trial(trial: Trial, services: Services) -> None:
     """Compares, stops the processes, and reports."""
     scripts, found = compare(trial, services.planned)
     counts, sink_counts = trial.adapters.stop(), trial.sink.stop()
     report_trial(services, scripts, found, counts)
     print(f"  {sink_counts}; {trial.adapters.starts} starts of {len(trial.places)} adapters")
-    check_copies(cluster, trial.streams)
 
 
 def sessions_with_edits(settings: Settings, cluster: Cluster, seed: int) -> None:
     """Part 1: doubled lines, swapped lines and edits."""
     print("1. 500 sessions, four partitions, doubled and swapped lines, edits", flush=True)
     with started(settings, [(at, 0) for at in range(PARTITIONS)]) as trial:
-        services = Services(settings.address, settings.streams, random.Random(seed))
-        sessions = make_sessions(seed, WAVES * WAVE_SESSIONS, 0.2)
-        run_waves(trial, services, sessions, [lambda: None] * WAVES)
-        finish_trial(trial, services, cluster)
+        trial.engine.create(trial.streams.all())
+        undisturbed_waves(trial, seed)
+        check_copies(cluster, trial.streams)
+
+
+def undisturbed_waves(trial: Trial, seed: int) -> None:
+    """All sessions and edits, and the comparison."""
+    services = Services(trial.settings.address, trial.streams, random.Random(seed))
+    run_waves(trial, services, make_sessions(seed, WAVES * WAVE_SESSIONS, 0.2), [lambda: None] * WAVES)
+    finish_trial(trial, services)
 
 
 def sessions_with_kills(settings: Settings, cluster: Cluster, seed: int) -> None:
     """Part 2: the same with kills, and with two monitors of partition 0."""
     print("2. 500 sessions; a monitor, an adapter, a node and all nodes are killed", flush=True)
     with started(settings, [(0, 0), (0, 1)] + [(at, 0) for at in range(1, PARTITIONS)]) as trial:
+        trial.engine.create(trial.streams.all())
+
         def kill_one_node() -> None:
             kill_node(cluster.nodes[seed % 3])
             time.sleep(3)
@@ -360,12 +368,18 @@ def sessions_with_kills(settings: Settings, cluster: Cluster, seed: int) -> None
                 kill_node(node)
             cluster.restart(cluster.nodes)
 
-        actions = [lambda: trial.adapters.kill_monitor((1, 0)), lambda: trial.adapters.kill_adapter((2, 0)),
-                   kill_one_node, kill_all_nodes, lambda: trial.adapters.kill_adapter((0, 1))]
+        def kill_process(pid: int) -> None:
+            os.kill(pid, signal.SIGKILL)
+
+        # An adapter that is killed leaves its monitor without input, and so ends it.
+        actions = [lambda: kill_process(trial.adapters.monitor_pid((1, 0))),
+                   lambda: kill_process(trial.adapters.adapter_pid((2, 0))), kill_one_node, kill_all_nodes,
+                   lambda: kill_process(trial.adapters.adapter_pid((0, 1)))]
         services = Services(settings.address, settings.streams, random.Random(seed))
         sessions = make_sessions(seed, WAVES * WAVE_SESSIONS, 0.2)
         run_waves(trial, services, sessions, actions)
-        finish_trial(trial, services, cluster)
+        finish_trial(trial, services)
+        check_copies(cluster, trial.streams)
         if trial.adapters.starts < len(trial.places) + 3:
             raise CheckFault("adapters were not started again")
 
@@ -403,6 +417,7 @@ def right_sessions(settings: Settings, seed: int) -> None:
     print("3. 300 right sessions, whose services don't wait for each other", flush=True)
     sessions = make_sessions(seed, RIGHT_SESSIONS, 0)
     with started(settings, [(at, 0) for at in range(PARTITIONS)]) as trial:
+        trial.engine.create(trial.streams.all())
         make_edits(trial, [("put", module_text(name)) for name in MODULES], random.Random(seed))
         due = run_services(settings, sessions, random.Random(seed))
         logs = [read_whole(trial.engine, trial.streams.log(at), 5) for at in range(PARTITIONS)]
@@ -418,9 +433,22 @@ def right_sessions(settings: Settings, seed: int) -> None:
     unheld, _ = run_watch(settings.program, whole_script(scripts, edits), None)
     alarms = {text.split()[2] for text in unheld if text.split()[1] == "close" and " offence at " in text}
     print(f"  {len(found)} replies, {len(wrong)} with an offence or a refusal, {len(complete - missing)} sessions "
-          f"complete; {waited} events waited, 0 released by the limit; without --hold {len(alarms)} sessions are offences")
+          f"complete; {waited} events waited, 0 released by the limit")
+    print(f"  without --hold {len(alarms)} of these sessions are offences")
     if len(found) != due or wrong or missing or not waited or not alarms:
         raise CheckFault(f"{len(found)} replies of {due}; {wrong[:3]}; {len(missing)} not complete")
+
+
+def sessions_over_kafka(program: Path, folder: Path, seed: int) -> None:
+    """Part 4: the engine on Kafka, with the mock brokers of its client library. These make topics by themselves."""
+    print("4. 500 sessions over the mock brokers of librdkafka", flush=True)
+    from confluent_kafka import Producer as Client
+    # The brokers listen on ports of loopback, as long as this client lives.
+    brokers = Client({"bootstrap.servers": "127.0.0.1:1", "test.mock.num.brokers": 3, "log_level": 0})
+    hosts = [f"{broker.host}:{broker.port}" for broker in brokers.list_topics(timeout=10).brokers.values()]
+    settings = Settings(program, "kafka:" + ",".join(hosts), Streams("kafka", PARTITIONS), HOLD, folder)
+    with started(settings, [(at, 0) for at in range(PARTITIONS)]) as trial:
+        undisturbed_waves(trial, seed)
 
 
 def run_parts(program: Path, folder: Path, seed: int) -> None:
@@ -438,9 +466,15 @@ def run_parts(program: Path, folder: Path, seed: int) -> None:
             print(f"  {time.monotonic() - at:.0f} s", flush=True)
     finally:
         cluster.stop()
+    at = time.monotonic()
+    sessions_over_kafka(program, folder, seed + 3)
+    print(f"  {time.monotonic() - at:.0f} s", flush=True)
 
 
 def interrupted(number: int, _frame: object) -> None:
+    """Ends the check. Further signals must not disturb what stops the processes."""
+    for each in SIGNALS:
+        signal.signal(each, signal.SIG_IGN)
     raise CheckFault("ten minutes have passed" if number == signal.SIGALRM else f"interrupted by signal {number}")
 
 
@@ -457,7 +491,7 @@ def arguments() -> argparse.Namespace:
 
 def main() -> int:
     options = arguments()
-    for number in (signal.SIGALRM, signal.SIGTERM, signal.SIGINT):
+    for number in SIGNALS:
         signal.signal(number, interrupted)
     signal.alarm(LIMIT_SECONDS)
     begin = time.monotonic()
@@ -481,4 +515,7 @@ if __name__ == "__main__":
             os.execv(DEBIAN_PYTHON, [DEBIAN_PYTHON, *sys.argv])
         print(f"not installed for {sys.executable}: {' '.join(missing)}")
         sys.exit(MISSING_STATUS)
-    sys.exit(main())
+    found = main()
+    # Threads of producers may still wait for an engine that is gone, and end with the process.
+    sys.stdout.flush()
+    os._exit(found)

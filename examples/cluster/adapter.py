@@ -92,10 +92,10 @@ class Adapter:
 
     def counts(self) -> str:
         """What came, in one line."""
-        ordering = self._ordering
-        return (f"adapter {self._partition}: {self.messages} messages, {self.lines} lines, {ordering.doubled} doubled, "
-                f"{ordering.came_early} early, {ordering.waiting()} still early, {self.bad} bad, {self._edits.due} edits "
-                f"at {self.marks} marks")
+        lines = self._ordering
+        return (f"adapter {self._partition}: {self.messages} messages, {self.lines} lines, {lines.doubled} doubled, "
+                f"{lines.came_early} early, {lines.waiting()} still early, {self.bad} bad, {self._edits.due} edits at "
+                f"{self.marks} marks")
 
 
 def publisher(engine: Engine, streams: Streams, partition: int) -> Callable[[List[bytes]], None]:

@@ -61,13 +61,12 @@ class Adapters:
             self._start(place)
         threading.Thread(target=self._keep, daemon=True).start()
 
-    def kill_adapter(self, place: Place) -> None:
-        """Kills an adapter. Its monitor ends with its input."""
-        os.kill(self._running[place].pid, signal.SIGKILL)
+    def adapter_pid(self, place: Place) -> int:
+        return self._running[place].pid
 
-    def kill_monitor(self, place: Place) -> None:
-        """Kills the monitor of an adapter, which prints its pid when it starts."""
-        os.kill(int(self._file(place, "pid").read_text(encoding="ascii").split()[-1]), signal.SIGKILL)
+    def monitor_pid(self, place: Place) -> int:
+        """The pid of an adapter's monitor, which the adapter prints when it starts."""
+        return int(self._file(place, "pid").read_text(encoding="ascii").split()[-1])
 
     def stop(self) -> List[str]:
         """Ends all adapters behind what is there, and returns what they and their monitors counted."""
