@@ -52,7 +52,9 @@ from workload import GATEWAY, MODULES, Report, Session, by_service, make_session
 
 LIMIT_SECONDS = 600
 SIGNALS = (signal.SIGALRM, signal.SIGTERM, signal.SIGINT)
-PARTITIONS, HOLD = 4, 100_000
+# More lines than a partition gets in a wave or in part 3. One monitor of all partitions gets more between two events of
+# a session, so its limit is higher.
+PARTITIONS, HOLD, WHOLE_HOLD = 4, 2_000, 1_000_000
 WAVES, WAVE_SESSIONS = 5, 100
 RIGHT_SESSIONS, LINES_A_MESSAGE = 300, 10
 REPLY_SECONDS, SERVICE_SECONDS, COPY_SECONDS = 120, 180, 60
@@ -242,7 +244,9 @@ def compare(trial: Trial, planned: Set[Line]) -> Tuple[List[PartitionScript], Di
     edits = read_whole(trial.engine, streams.edits(), 5)
     scripts = [partition_script(at, log) for at, log in enumerate(logs)]
     check_logs(scripts, planned, streams)
-    replies, _ = run_watch(trial.settings.program, whole_script(scripts, edits), HOLD)
+    replies, released = run_watch(trial.settings.program, whole_script(scripts, edits), WHOLE_HOLD)
+    if not released.endswith(" 0 released by the limit"):
+        raise CheckFault(f"one watch of all lines reports {released}")
     wanted = by_tag(replies)
     sweeps = sum(len(script.swept) for script in scripts)
     due = len(planned) + len(edits) + sweeps

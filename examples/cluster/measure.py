@@ -27,7 +27,7 @@ from producer import Producer
 from records import Streams
 from workload import MODULES, Session, make_sessions, module_text
 
-HOLD, LIMIT_SECONDS, REPLY_SECONDS = 100_000, 600, 200
+HOLD, LIMIT_SECONDS, REPLY_SECONDS = 10_000, 600, 200
 REPORTS, FLUSHED_SESSIONS = 200, 50
 IDLE_SECONDS, LOOK_SECONDS = 0.5, 0.0005
 
