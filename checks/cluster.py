@@ -42,7 +42,7 @@ sys.path.insert(0, str(TOP / "examples" / "cluster"))
 from disorder import DisorderedEngine
 from editor import append_edit, put_marks
 from engine import Engine, EngineFault, Message, open_engine
-from nodes import SERVER, Cluster, NodeFault, kill_node
+from nodes import SERVER, Cluster, Node, NodeFault, kill_node
 from oracle import (PartitionScript, by_tag, differences, is_sweep, partition_script, run_watch, swept_sums,
                     whole_script)
 from processes import Adapters, ProcessFault, Settings, SinkProcess, end_process
@@ -57,10 +57,13 @@ SIGNALS = (signal.SIGALRM, signal.SIGTERM, signal.SIGINT)
 PARTITIONS, HOLD, WHOLE_HOLD = 4, 2_000, 1_000_000
 WAVES, WAVE_SESSIONS = 5, 100
 RIGHT_SESSIONS, LINES_A_MESSAGE = 300, 10
+KILL_PAUSE, DOWN_SECONDS = 0.3, 2
 REPLY_SECONDS, SERVICE_SECONDS, COPY_SECONDS = 120, 180, 60
 MISSING_STATUS = 77
 DEBIAN_PYTHON = "/usr/bin/python3"
 Edit = Tuple[str, str]
+# The service that asks for verdicts between two edits.
+AUDITOR = "auditor"
 
 
 class CheckFault(Exception):
@@ -119,8 +122,11 @@ class Services:
     address: str
     streams: Streams
     pick: random.Random
+    # The longest pause between two appends of a service. With one, sessions last long enough to be disturbed.
+    pause: float
     producers: Dict[str, Producer] = field(default_factory=dict)
     planned: Set[Line] = field(default_factory=set)
+    _confirmed: List[int] = field(default_factory=list)
     _numbers: Dict[Tuple[str, str], int] = field(default_factory=dict)
     _engines: List[DisorderedEngine] = field(default_factory=list)
 
@@ -138,13 +144,29 @@ class Services:
             for report in lines:
                 self._plan(report)
         pool = ThreadPoolExecutor(len(jobs))
-        futures = [pool.submit(publish, *job) for job in jobs]
+        futures = [pool.submit(self._publish, *job) for job in jobs]
 
         def finish() -> None:
             for future in futures:
                 future.result(SERVICE_SECONDS)
             pool.shutdown()
         return finish
+
+    def unconfirmed(self) -> int:
+        """How many lines of those that are planned have not been confirmed."""
+        return len(self.planned) - sum(self._confirmed)
+
+    def _publish(self, producer: Producer, reports: List[Report], seed: int) -> None:
+        """Publishes a service's reports, some at a time."""
+        pick, at = random.Random(seed), 0
+        while at < len(reports):
+            some = reports[at:at + pick.randint(1, 20)]
+            at += len(some)
+            for report in some:
+                producer.report(report.session, report.verb, report.arguments)
+            producer.flush()
+            self._confirmed.append(len(some))
+            time.sleep(pick.random() * self.pause)
 
     def _plan(self, report: Report) -> None:
         """What must be in the logs, with numbers counted here and not by the producer."""
@@ -154,19 +176,6 @@ class Services:
 
     def disorder(self) -> Tuple[int, int]:
         return sum(each.doubled for each in self._engines), sum(each.swapped for each in self._engines)
-
-
-def publish(producer: Producer, reports: List[Report], seed: int) -> None:
-    """Publishes a service's reports, some at a time."""
-    pick = random.Random(seed)
-    left = 0
-    for report in reports:
-        producer.report(report.session, report.verb, report.arguments)
-        left -= 1
-        if left < 0:
-            producer.flush()
-            left = pick.randrange(40)
-    producer.flush()
 
 
 def make_edits(trial: Trial, edits: List[Edit], pick: random.Random) -> None:
@@ -192,9 +201,14 @@ def run_waves(trial: Trial, services: Services, sessions: List[Session], actions
     earlier: List[Session] = []
     for at, edits in enumerate(planned_edits()):
         wave = sessions[at * WAVE_SESSIONS:(at + 1) * WAVE_SESSIONS]
-        finish = services.begin(by_service(pick, wave))
+        reports = by_service(pick, wave)
+        if ("withdraw", "retries") in edits:
+            # While a protocol is missing its openings are refused, and what is reported of such a session may wait.
+            services.begin({GATEWAY: reports.pop(GATEWAY)})()
+        finish = services.begin(reports)
         time.sleep(0.3)
         make_edits(trial, edits[:1], pick)
+        services.begin({AUDITOR: [Report(session.name, AUDITOR, "ask") for session in earlier]})()
         actions[at]()
         make_edits(trial, edits[1:], pick)
         finish()
@@ -281,14 +295,14 @@ def report_trial(services: Services, scripts: List[PartitionScript], found: Dict
     early = sum(script.early for script in scripts)
     edits = [text for tag, text in found.items() if tag.startswith("@edit.")]
     refused = sum(text.startswith("refused") for text in edits)
-    stale = sum(text.endswith(" stale") for text in found.values())
+    withdrawn = sum(text.endswith(" withdrawn") for text in found.values())
     judged = sum(int(text.split()[1]) for tag, text in found.items() if is_sweep(tag))
     offences = sum(" offence at " in text for text in found.values())
     print(f"  put in: {doubled} doubled and {swapped} swapped messages; in the logs: "
           f"{sum(script.doubled for script in scripts)} doubled lines, {early} early; adapters dropped {dropped}")
-    print(f"  {len(edits)} edits, {refused} of them refused; {judged} conversations judged again by sweeps; "
-          f"{stale} replies stale, {offences} with an offence; {waited} events waited, 0 released by the limit")
-    if not (doubled and swapped and early and refused and judged and offences and waited):
+    print(f"  {len(edits)} edits, {refused} of them refused; {judged} conversations judged again by sweeps; {offences} "
+          f"replies have an offence, {withdrawn} are withdrawn; {waited} events waited, 0 released by the limit")
+    if not (doubled and swapped and early and refused and judged and offences and withdrawn and waited):
         raise CheckFault("the trial lacks something that it is to show")
 
 
@@ -321,6 +335,12 @@ def check_copies(cluster: Cluster, streams: Streams) -> None:
     print(f"  {len(streams.all())} streams with {messages} messages: the {len(cluster.nodes)} copies of each are equal")
 
 
+def create_streams(settings: Settings) -> None:
+    engine = open_engine(settings.address)
+    engine.create(settings.streams.all())
+    engine.close()
+
+
 @contextlib.contextmanager
 def started(settings: Settings, places: List[Tuple[int, int]]) -> Iterator[Trial]:
     """A trial whose processes are ended, however it ends."""
@@ -343,49 +363,55 @@ def finish_trial(trial: Trial, services: Services) -> None:
 def sessions_with_edits(settings: Settings, cluster: Cluster, seed: int) -> None:
     """Part 1: doubled lines, swapped lines and edits."""
     print("1. 500 sessions, four partitions, doubled and swapped lines, edits", flush=True)
+    create_streams(settings)
+    undisturbed_trial(settings, seed)
+    check_copies(cluster, settings.streams)
+
+
+def undisturbed_trial(settings: Settings, seed: int) -> None:
+    """All sessions and edits with an adapter for each partition, and the comparison."""
     with started(settings, [(at, 0) for at in range(PARTITIONS)]) as trial:
-        trial.engine.create(trial.streams.all())
-        undisturbed_waves(trial, seed)
-        check_copies(cluster, trial.streams)
+        services = Services(settings.address, settings.streams, random.Random(seed), 0)
+        run_waves(trial, services, make_sessions(seed, WAVES * WAVE_SESSIONS, 0.2), [lambda: None] * WAVES)
+        finish_trial(trial, services)
 
 
-def undisturbed_waves(trial: Trial, seed: int) -> None:
-    """All sessions and edits, and the comparison."""
-    services = Services(trial.settings.address, trial.streams, random.Random(seed))
-    run_waves(trial, services, make_sessions(seed, WAVES * WAVE_SESSIONS, 0.2), [lambda: None] * WAVES)
-    finish_trial(trial, services)
+def kills(trial: Trial, services: Services, cluster: Cluster) -> List[Callable[[], None]]:
+    """What is killed in each wave: a monitor, an adapter, one node, all nodes, and one of two adapters of a partition.
+
+    An adapter that is killed leaves its monitor without input, and so ends it.
+    """
+    def kill(what: str, processes: List[int], nodes: List[Node]) -> None:
+        if not services.unconfirmed():
+            raise CheckFault(f"nothing was under way when {what} was killed")
+        print(f"  {what} is killed, with {services.unconfirmed()} lines not yet confirmed", flush=True)
+        for pid in processes:
+            os.kill(pid, signal.SIGKILL)
+        for node in nodes:
+            kill_node(node)
+        if nodes:
+            time.sleep(DOWN_SECONDS)
+            cluster.restart(nodes)
+
+    return [lambda: kill("a monitor", [trial.adapters.monitor_pid((1, 0))], []),
+            lambda: kill("an adapter", [trial.adapters.adapter_pid((2, 0))], []),
+            lambda: kill("one node", [], [services.pick.choice(cluster.nodes)]),
+            lambda: kill("each node", [], cluster.nodes),
+            lambda: kill("a second adapter", [trial.adapters.adapter_pid((0, 1))], [])]
 
 
 def sessions_with_kills(settings: Settings, cluster: Cluster, seed: int) -> None:
     """Part 2: the same with kills, and with two monitors of partition 0."""
     print("2. 500 sessions; a monitor, an adapter, a node and all nodes are killed", flush=True)
+    create_streams(settings)
     with started(settings, [(0, 0), (0, 1)] + [(at, 0) for at in range(1, PARTITIONS)]) as trial:
-        trial.engine.create(trial.streams.all())
-
-        def kill_one_node() -> None:
-            kill_node(cluster.nodes[seed % 3])
-            time.sleep(3)
-            cluster.restart([cluster.nodes[seed % 3]])
-
-        def kill_all_nodes() -> None:
-            for node in cluster.nodes:
-                kill_node(node)
-            cluster.restart(cluster.nodes)
-
-        def kill_process(pid: int) -> None:
-            os.kill(pid, signal.SIGKILL)
-
-        # An adapter that is killed leaves its monitor without input, and so ends it.
-        actions = [lambda: kill_process(trial.adapters.monitor_pid((1, 0))),
-                   lambda: kill_process(trial.adapters.adapter_pid((2, 0))), kill_one_node, kill_all_nodes,
-                   lambda: kill_process(trial.adapters.adapter_pid((0, 1)))]
-        services = Services(settings.address, settings.streams, random.Random(seed))
+        services = Services(settings.address, settings.streams, random.Random(seed), KILL_PAUSE)
         sessions = make_sessions(seed, WAVES * WAVE_SESSIONS, 0.2)
-        run_waves(trial, services, sessions, actions)
+        run_waves(trial, services, sessions, kills(trial, services, cluster))
         finish_trial(trial, services)
         check_copies(cluster, trial.streams)
         if trial.adapters.starts < len(trial.places) + 3:
-            raise CheckFault("adapters were not started again")
+            raise CheckFault("an adapter whose monitor was killed, or that was killed itself, was not started again")
 
 
 def run_services(settings: Settings, sessions: List[Session], pick: random.Random) -> int:
@@ -420,8 +446,8 @@ def right_sessions(settings: Settings, seed: int) -> None:
     """Part 3: right sessions whose reports come in another order."""
     print("3. 300 right sessions, whose services don't wait for each other", flush=True)
     sessions = make_sessions(seed, RIGHT_SESSIONS, 0)
+    create_streams(settings)
     with started(settings, [(at, 0) for at in range(PARTITIONS)]) as trial:
-        trial.engine.create(trial.streams.all())
         make_edits(trial, [("put", module_text(name)) for name in MODULES], random.Random(seed))
         due = run_services(settings, sessions, random.Random(seed))
         logs = [read_whole(trial.engine, trial.streams.log(at), 5) for at in range(PARTITIONS)]
@@ -450,9 +476,7 @@ def sessions_over_kafka(program: Path, folder: Path, seed: int) -> None:
     # The brokers listen on ports of loopback, as long as this client lives.
     brokers = Client({"bootstrap.servers": "127.0.0.1:1", "test.mock.num.brokers": 3, "log_level": 0})
     hosts = [f"{broker.host}:{broker.port}" for broker in brokers.list_topics(timeout=10).brokers.values()]
-    settings = Settings(program, "kafka:" + ",".join(hosts), Streams("kafka", PARTITIONS), HOLD, folder)
-    with started(settings, [(at, 0) for at in range(PARTITIONS)]) as trial:
-        undisturbed_waves(trial, seed)
+    undisturbed_trial(Settings(program, "kafka:" + ",".join(hosts), Streams("kafka", PARTITIONS), HOLD, folder), seed)
 
 
 def run_parts(program: Path, folder: Path, seed: int) -> None:

@@ -30,7 +30,8 @@ class PreparedTest(unittest.TestCase):
             self.assertEqual(settings["ERL_EPMD_ADDRESS"], "127.0.0.1")
             self.assertIn("inet_dist_use_interface {127,0,0,1}", settings["RABBITMQ_SERVER_ADDITIONAL_ERL_ARGS"])
             lines = (node.folder / "rabbitmq.conf").read_text().splitlines()
-            self.assertEqual([line for line in lines if "listeners" in line], [f"stream.listeners.tcp.1 = 127.0.0.1:{node.stream}"])
+            self.assertEqual([line for line in lines if "listeners" in line],
+                             [f"stream.listeners.tcp.1 = 127.0.0.1:{node.stream}"])
 
     def test_no_file_is_outside_the_folder(self):
         for node in self.cluster.nodes:
