@@ -28,12 +28,11 @@ import signal
 import subprocess
 import sys
 import tempfile
-import threading
 import time
 from concurrent.futures import ThreadPoolExecutor
 from dataclasses import dataclass, field
 from pathlib import Path
-from typing import Callable, Dict, Iterator, List, Optional, Set, Tuple
+from typing import Callable, Dict, Iterator, List, Set, Tuple
 
 TOP = Path(__file__).resolve().parent.parent
 PROGRAM = TOP / "crates" / "scribmon" / "out" / "scribmon"
@@ -48,7 +47,7 @@ from oracle import (PartitionScript, by_tag, differences, is_sweep, partition_sc
 from processes import Adapters, ProcessFault, Settings, SinkProcess, end_process
 from producer import Producer
 from records import Line, Stream, Streams
-from workload import GATEWAY, MODULES, Report, Session, by_service, make_sessions, mixed, module_text
+from workload import GATEWAY, MODULES, Report, Session, by_service, make_sessions, module_text
 
 LIMIT_SECONDS = 600
 SIGNALS = (signal.SIGALRM, signal.SIGTERM, signal.SIGINT)
@@ -57,11 +56,15 @@ SIGNALS = (signal.SIGALRM, signal.SIGTERM, signal.SIGINT)
 PARTITIONS, HOLD, WHOLE_HOLD = 4, 2_000, 1_000_000
 WAVES, WAVE_SESSIONS = 5, 100
 RIGHT_SESSIONS, LINES_A_MESSAGE = 300, 10
+# 127.0.0.1 and ::1, as the kernel's tables have them.
+LOOPBACK = {"0100007F", "00000000000000000000000001000000"}
 KILL_PAUSE, DOWN_SECONDS = 0.3, 2
 REPLY_SECONDS, SERVICE_SECONDS, COPY_SECONDS = 120, 180, 60
 MISSING_STATUS = 77
 DEBIAN_PYTHON = "/usr/bin/python3"
 Edit = Tuple[str, str]
+# The edit and the partition in whose log its mark is left out.
+LOST_MARK = (6, 1)
 # The service that asks for verdicts between two edits.
 AUDITOR = "auditor"
 
@@ -179,18 +182,15 @@ class Services:
 
 
 def make_edits(trial: Trial, edits: List[Edit], pick: random.Random) -> None:
-    """Appends edits, with a mark behind each. Some marks are doubled, one comes late, and one is lost in one log."""
-    everywhere = range(PARTITIONS)
-    previous: Optional[int] = None
+    """Appends edits, with a mark behind each. Some marks are doubled, some come late, and one is lost in one log."""
     for verb, argument in edits:
         number = append_edit(trial.engine, trial.streams, verb, argument)
-        is_lost = number == len(MODULES) + 3
-        put_marks(trial.engine, trial.streams, number, [at for at in everywhere if not (is_lost and at == 1)])
-        put_marks(trial.engine, trial.streams, number, [pick.randrange(PARTITIONS)] if number % 3 == 0 and not is_lost
-                  else [])
-        if previous is not None and number % 4 == 0:
-            put_marks(trial.engine, trial.streams, previous, everywhere)
-        previous = number
+        marked = [at for at in range(PARTITIONS) if (number, at) != LOST_MARK]
+        put_marks(trial.engine, trial.streams, number, marked)
+        if number % 3 == 0:
+            put_marks(trial.engine, trial.streams, number, [pick.choice(marked)])
+        if number % 4 == 0 and number:
+            put_marks(trial.engine, trial.streams, number - 1, range(PARTITIONS))
         time.sleep(pick.random() * 0.5)
 
 
@@ -293,6 +293,7 @@ def report_trial(services: Services, scripts: List[PartitionScript], found: Dict
     waited, dropped = check_counts(counts)
     doubled, swapped = services.disorder()
     early = sum(script.early for script in scripts)
+    marks, swept = sum(script.marks for script in scripts), sum(len(script.swept) for script in scripts)
     edits = [text for tag, text in found.items() if tag.startswith("@edit.")]
     refused = sum(text.startswith("refused") for text in edits)
     withdrawn = sum(text.endswith(" withdrawn") for text in found.values())
@@ -300,9 +301,11 @@ def report_trial(services: Services, scripts: List[PartitionScript], found: Dict
     offences = sum(" offence at " in text for text in found.values())
     print(f"  put in: {doubled} doubled and {swapped} swapped messages; in the logs: "
           f"{sum(script.doubled for script in scripts)} doubled lines, {early} early; adapters dropped {dropped}")
+    print(f"  {marks} marks in the logs, {marks - swept} of them doubled or late, and one lost")
     print(f"  {len(edits)} edits, {refused} of them refused; {judged} conversations judged again by sweeps; {offences} "
           f"replies have an offence, {withdrawn} are withdrawn; {waited} events waited, 0 released by the limit")
-    if not (doubled and swapped and early and refused and judged and offences and withdrawn and waited):
+    if not (doubled and swapped and early and refused and judged and offences and withdrawn and waited
+            and marks > swept and swept == PARTITIONS * len(edits) - 1):
         raise CheckFault("the trial lacks something that it is to show")
 
 
@@ -479,13 +482,38 @@ def sessions_over_kafka(program: Path, folder: Path, seed: int) -> None:
     undisturbed_trial(Settings(program, "kafka:" + ",".join(hosts), Streams("kafka", PARTITIONS), HOLD, folder), seed)
 
 
+def listening_addresses(groups: Set[int]) -> List[str]:
+    """The addresses at which processes of some process groups listen, as Linux lists them."""
+    listening = {}
+    for table in ("tcp", "tcp6"):
+        for line in Path("/proc/net", table).read_text(encoding="ascii").splitlines()[1:]:
+            fields = line.split()
+            if fields[3] == "0A":
+                listening[f"socket:[{fields[9]}]"] = fields[1].partition(":")[0]
+    found = []
+    for process in Path("/proc").glob("[0-9]*"):
+        with contextlib.suppress(OSError):
+            if os.getpgid(int(process.name)) in groups:
+                found += [listening[name] for name in map(os.readlink, process.glob("fd/*")) if name in listening]
+    return found
+
+
+def check_listeners(cluster: Cluster) -> None:
+    """All nodes and the port mapper must listen on loopback alone: each node on three ports."""
+    addresses = listening_addresses({node.process.pid for node in cluster.nodes} | {cluster.mapper.pid})
+    if set(addresses) - LOOPBACK or len(addresses) < 3 * len(cluster.nodes) + 1:
+        raise CheckFault(f"the nodes listen at {addresses}")
+    print(f"  {len(addresses)} ports are listened on, all on loopback", flush=True)
+
+
 def run_parts(program: Path, folder: Path, seed: int) -> None:
     """Starts the nodes and runs all parts over them."""
     cluster = Cluster.prepared(folder, 3)
     begin = time.monotonic()
     try:
         cluster.start()
-        print(f"three nodes on loopback after {time.monotonic() - begin:.0f} s", flush=True)
+        print(f"three nodes after {time.monotonic() - begin:.0f} s", flush=True)
+        check_listeners(cluster)
         for part, name in ((lambda at: sessions_with_edits(at, cluster, seed), "edits"),
                            (lambda at: sessions_with_kills(at, cluster, seed + 1), "kills"),
                            (lambda at: right_sessions(at, seed + 2), "right")):

@@ -76,8 +76,8 @@ class KafkaEngine:
                 if message is None:
                     yield None
                 elif message.error():
-                    # The client goes on by itself; only what it cannot mend ends the reading.
-                    if message.error().fatal():
+                    # The client goes on by itself. Only what it cannot mend ends the reading, as a missing offset.
+                    if message.error().fatal() or message.error().code() == KafkaError._AUTO_OFFSET_RESET:
                         raise EngineFault(f"cannot read {stream}: {message.error()}")
                 else:
                     if message.offset() != due:

@@ -176,10 +176,11 @@ def main() -> int:
         except EngineFault as fault:
             print(f"measure.py: {fault}", file=sys.stderr)
             return 1
-    # The threads that count replies wait for more, and end with the process.
-    sys.stdout.flush()
-    os._exit(0)
+    return 0
 
 
 if __name__ == "__main__":
-    sys.exit(main())
+    found = main()
+    # The threads that count replies wait for more, and end with the process.
+    sys.stdout.flush()
+    os._exit(found)

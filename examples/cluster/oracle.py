@@ -22,6 +22,7 @@ class PartitionScript:
     """A partition's script lines by the number of edits that were taken, and the edits at which it swept."""
     groups: Dict[int, List[str]] = field(default_factory=lambda: defaultdict(list))
     swept: List[int] = field(default_factory=list)
+    marks: int = 0
     doubled: int = 0
     early: int = 0
     lines: Set[Line] = field(default_factory=set)
@@ -40,6 +41,7 @@ def partition_script(partition: int, log: List[Message]) -> PartitionScript:
             first.setdefault((record.session, record.producer, record.number), place)
     taken, edits_at = 0, []
     for _, record in records:
+        script.marks += isinstance(record, Mark)
         if isinstance(record, Mark) and record.edit >= taken:
             taken = record.edit + 1
             script.swept.append(record.edit)

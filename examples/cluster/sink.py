@@ -101,10 +101,11 @@ def main() -> int:
         print(f"sink.py: {fault}", file=sys.stderr)
         status = 1
     print(sink.counts(), file=sys.stderr, flush=True)
-    # The threads wait for messages, and end with the process.
-    sys.stdout.flush()
-    os._exit(status)
+    return status
 
 
 if __name__ == "__main__":
-    main()
+    found = main()
+    # The threads that read wait for messages, and end with the process.
+    sys.stdout.flush()
+    os._exit(found)

@@ -4,6 +4,7 @@ import importlib.util
 import unittest
 
 import memory_engine  # the path of the example's modules
+from engine import EngineFault
 from records import Stream, Streams
 
 HAS_CLIENT = importlib.util.find_spec("confluent_kafka") is not None
@@ -61,6 +62,12 @@ class KafkaEngineTest(unittest.TestCase):
         self.assertEqual(self.engine.last(stream, PATIENCE), 0)
         self.engine.append(stream, [b"b", b"c"])
         self.assertEqual(self.engine.last(stream, PATIENCE), 2)
+
+    def test_an_offset_that_is_not_there_is_a_fault(self):
+        stream = Stream("missing", 0)
+        self.engine.append(stream, [b"a"])
+        with self.assertRaises(EngineFault):
+            read_some(self.engine, stream, 7, 1)
 
     def test_what_waits_comes_when_it_is_written(self):
         stream = Stream("waits", 0)

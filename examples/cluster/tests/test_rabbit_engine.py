@@ -1,9 +1,10 @@
-"""Tests of confirmations of the engine on RabbitMQ. They need no broker, and are left out without the package amqp."""
+"""Tests of the engine on RabbitMQ over copies in memory. They need no broker, but the package amqp."""
 
 import importlib.util
 import unittest
 
 import memory_engine  # the path of the example's modules
+from engine import EngineFault, Message
 from records import Stream
 
 HAS_CLIENT = importlib.util.find_spec("amqp") is not None
@@ -86,6 +87,58 @@ class AppendTest(unittest.TestCase):
         first, second = FakeNode(acknowledge(1, False), refuse(2)), FakeNode(acknowledge(1, False))
         self.engine(first, second).append(STREAM, [b"x", b"y"])
         self.assertEqual(second.published, [b"y"])
+
+
+class ScriptedCopies:
+    """Stands in for subscriptions: each one has messages, or faults, of its own."""
+
+    def __init__(self, *copies):
+        self.begun = []
+        self._copies = list(copies)
+
+    def __call__(self, connection, queue, offset):
+        self.begun.append(offset)
+        self._left = list(self._copies.pop(0))
+        return self
+
+    def take(self, seconds):
+        step = self._left.pop(0)
+        if isinstance(step, Exception):
+            raise step
+        return step
+
+    def close(self):
+        """Nothing is held open."""
+
+
+@unittest.skipUnless(HAS_CLIENT, "amqp is not installed")
+class ReadTest(unittest.TestCase):
+    def messages(self, offset, *copies):
+        import rabbit_engine
+        self.addCleanup(setattr, rabbit_engine, "Subscription", rabbit_engine.Subscription)
+        rabbit_engine.Subscription = self.scripted = ScriptedCopies(*copies)
+        engine = rabbit_engine.RabbitEngine(["a:1", "b:2"])
+        engine._connection = lambda: None
+        return engine.read(STREAM, offset, 0)
+
+    def test_reading_goes_on_with_another_copy_behind_the_last_message(self):
+        first = [Message(3, b"x"), None, Message(4, b"y"), ConnectionResetError("the node is gone")]
+        messages = self.messages(3, first, [Message(5, b"z")])
+        self.assertEqual([next(messages) for _ in range(4)],
+                         [Message(3, b"x"), None, Message(4, b"y"), Message(5, b"z")])
+        self.assertEqual(self.scripted.begun, [3, 5])
+
+    def test_an_offset_that_is_left_out_is_a_fault(self):
+        messages = self.messages(0, [Message(0, b"x"), Message(2, b"z")])
+        next(messages)
+        with self.assertRaises(EngineFault):
+            next(messages)
+
+    def test_an_offset_that_comes_again_is_a_fault(self):
+        messages = self.messages(0, [Message(0, b"x"), Message(0, b"x")])
+        next(messages)
+        with self.assertRaises(EngineFault):
+            next(messages)
 
 
 if __name__ == "__main__":
