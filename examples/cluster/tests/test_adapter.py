@@ -103,6 +103,16 @@ class RestartTest(unittest.TestCase):
         self.assertEqual(len(first), 5)
 
 
+class PublisherTest(unittest.TestCase):
+    def test_many_replies_take_several_messages(self):
+        engine = MemoryEngine()
+        replies = [b"@%d ask" % number for number in range(2 * adapter.REPLIES_A_MESSAGE + 1)]
+        publisher(engine, STREAMS, 0)(replies)
+        bodies = engine.streams[STREAMS.replies(0)]
+        self.assertEqual(len(bodies), 3)
+        self.assertEqual(b"\n".join(bodies).split(b"\n"), replies)
+
+
 class MonitorFaultTest(unittest.TestCase):
     """The monitor's program is Python here: what counts is how its end is seen."""
 
