@@ -241,6 +241,20 @@ def wait_for_replies(trial: Trial, count: int) -> List[str]:
     return trial.sink.replies()
 
 
+def read_scripts(trial: Trial, lines: int) -> Tuple[List[PartitionScript], List[Message]]:
+    """The scripts of all partitions, and the edits. A copy may lag, so it is read again while it lacks lines."""
+    limit = time.monotonic() + COPY_SECONDS
+    while True:
+        logs = [read_whole(trial.engine, trial.streams.log(at), 5) for at in range(PARTITIONS)]
+        edits = read_whole(trial.engine, trial.streams.edits(), 5)
+        scripts = [partition_script(at, log) for at, log in enumerate(logs)]
+        is_whole = sum(len(script.lines) for script in scripts) >= lines and all(
+            max(script.swept, default=0) < len(edits) for script in scripts)
+        if is_whole or time.monotonic() > limit:
+            return scripts, edits
+        time.sleep(1)
+
+
 def check_logs(scripts: List[PartitionScript], planned: Set[Line], streams: Streams) -> None:
     """The logs must have what the services reported, each line in its session's log, and nothing else."""
     found = {line for script in scripts for line in script.lines}
@@ -253,11 +267,8 @@ def check_logs(scripts: List[PartitionScript], planned: Set[Line], streams: Stre
 
 def compare(trial: Trial, planned: Set[Line]) -> Tuple[List[PartitionScript], Dict[str, str]]:
     """Compares the sink's replies with those of one `watch`. Returns the partitions' scripts and the replies."""
-    streams = trial.streams
-    logs = [read_whole(trial.engine, streams.log(at), 5) for at in range(PARTITIONS)]
-    edits = read_whole(trial.engine, streams.edits(), 5)
-    scripts = [partition_script(at, log) for at, log in enumerate(logs)]
-    check_logs(scripts, planned, streams)
+    scripts, edits = read_scripts(trial, len(planned))
+    check_logs(scripts, planned, trial.streams)
     replies, released = run_watch(trial.settings.program, whole_script(scripts, edits), WHOLE_HOLD)
     if not released.endswith(" 0 released by the limit"):
         raise CheckFault(f"one watch of all lines reports {released}")
@@ -453,9 +464,7 @@ def right_sessions(settings: Settings, seed: int) -> None:
     with started(settings, [(at, 0) for at in range(PARTITIONS)]) as trial:
         make_edits(trial, [("put", module_text(name)) for name in MODULES], random.Random(seed))
         due = run_services(settings, sessions, random.Random(seed))
-        logs = [read_whole(trial.engine, trial.streams.log(at), 5) for at in range(PARTITIONS)]
-        edits = read_whole(trial.engine, trial.streams.edits(), 5)
-        scripts = [partition_script(at, log) for at, log in enumerate(logs)]
+        scripts, edits = read_scripts(trial, due)
         due += len(edits) + sum(len(script.swept) for script in scripts)
         found = by_tag(wait_for_replies(trial, due))
         waited, _ = check_counts(trial.adapters.stop())
