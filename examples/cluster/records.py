@@ -118,8 +118,8 @@ class Edit:
 def parse_edit(text: str) -> Edit:
     """The edit that the stream of edits has.
 
-    Raises BadRecord where it could not be told from the lines around it: a module text must not end early, and the
-    argument of the other verbs is one word.
+    Raises BadRecord where its lines could run into those around it: a module text must not end early, and the argument
+    of the other verbs is one word.
     """
     head, _, argument = text.partition("\n")
     fields = head.split(" ")
