@@ -24,7 +24,7 @@ plain_last (y ∷ entries) x = ap (λ es. y.1 ∷ es) (plain_last entries x)
 -- of a conversation of which nothing is left
 over : (bound : ℕ) (s : HeldStage) (entries : List Entry) (numbered : List Numbered) (h : HasTaken bound s.held entries numbered) (id : ℕ) → HasGone s id
     → IsOver id entries h.at.so_far.closed (closings_in s.held.pending) h.at.so_far.released (state_of s)
-over bound s entries numbered h id g = record { unopened = g.0; released_all = g.1.1 bound entries numbered h; unclosed = g.1.0 }
+over bound s entries numbered h id g = record { unopened = g.0; unasked = g.1.1 bound entries numbered h; released_all = g.1.0.1 bound entries numbered h; unclosed = g.1.0.0 }
 
 -- the run of one more entry
 pub one_more : (o : LabelledStyle) (bound : ℕ) (entries : List LabelledEntry) (numbered given : List Numbered) (names after : Naming) (w : State) (out more : List ℕ) (label : LineLabel) (e : Entry) (next : HeldStage)

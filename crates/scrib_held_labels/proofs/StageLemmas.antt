@@ -71,8 +71,13 @@ taken_renamed old new same bound entries numbered h =
 
 -- so does that nothing is left of a conversation
 gone_over : (s : HeldStage) (names : SessionNames) (met : Vec KeptSession Global) (id : ℕ) → HasGone (record s { names = names; held = record s.held { sink = record s.held.sink { met = met } } }) id → HasGone s id
-gone_over s names met id g =
-    (g.0, (g.1.0, λ bound entries numbered h. g.1.1 bound entries numbered (record { at = record { so_far = h.at.so_far; inside = h.at.inside }; wait = h.wait })))
+gone_over s names met id g = (
+  g.0,
+  (
+    (g.1.0.0, λ bound entries numbered h. g.1.0.1 bound entries numbered (record { at = record { so_far = h.at.so_far; inside = h.at.inside }; wait = h.wait })),
+    λ bound entries numbered h. g.1.1 bound entries numbered (record { at = record { so_far = h.at.so_far; inside = h.at.inside }; wait = h.wait }),
+  ),
+)
 
 pub gone_before : (old new : HeldStage) → IsRenamed old new → (id : ℕ) → HasGone new id → HasGone old id
 gone_before old new same id g = gone_over old new.names new.held.sink.met id (subst (λ (s : HeldStage). HasGone s id) same g)

@@ -8,7 +8,7 @@ use Rattle.scrib_core.specs.World.{conversation}
 use Rattle.scrib_core.specs.Answers.{State, initial}
 use Rattle.scrib_script_reader.specs.declared.entry.Entry.{Entry}
 use Rattle.scrib_hold_stage.specs.declared.noted.Noted.{Noted}
-use Rattle.scrib_hold_stage.specs.Entries.{Closings}
+use Rattle.scrib_hold_stage.specs.Entries.{Closings, opening_since}
 use Rattle.scrib_hold_stage.specs.PendingClosings.{IsApart}
 use Rattle.scrib_hold_stage.specs.Stages.{AreAllReleased}
 use Rattle.scrib_hold.specs.HeldScripts.{Asked, Pending, staged_from}
@@ -50,11 +50,12 @@ abbrev pub with_session : Naming → Option (List ℕ × ℕ) → Naming
 with_session names None = names
 with_session names (Some s) = update bytes_eq names s.0 (Some s.1)
 
--- Nothing is left of the conversation: it is not open, all its events since its last closing were released, and no
--- closing of it waits.
+-- Nothing is left of the conversation: it is not open, no line has opened it since its last closing, also none that was
+-- refused, all its events since then were released, and no closing of it waits.
 pub record IsOver (id : ℕ) (entries : List Entry) (closed : Closings) (pending : List Pending)
     (released : List (Noted Asked)) (w : State) : Type 0 where
   pub unopened : conversation w.world id ≡ None
+  pub unasked : opening_since (closed id) id (staged_from 1 entries) ≡ None
   pub released_all : AreAllReleased id (staged_from 1 entries) closed released
   pub unclosed : AllByRecursion (IsApart id) pending
 

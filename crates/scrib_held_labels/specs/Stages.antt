@@ -5,7 +5,7 @@ use Rattle.scrib_core.specs.World.{conversation}
 use Rattle.scrib_core.specs.Answers.{State}
 use Rattle.scrib_script_reader.specs.declared.entry.Entry.{Entry}
 use Rattle.scrib_hold_stage.specs.declared.stage.Counts.{Counts}
-use Rattle.scrib_hold.specs.HeldMonitors.{HasNoneWaiting, HasTaken}
+use Rattle.scrib_hold.specs.HeldMonitors.{HasNoneLeft, HasTaken}
 use Rattle.scrib_hold.specs.NumberedItems.{Numbered}
 use Rattle.scrib_labels.specs.Naming.{number_of}
 use Rattle.scrib_labelled.specs.declared.label_options.LabelledStyle.{LabelledStyle}
@@ -62,7 +62,7 @@ HeldPart first entries part = IsHeldPartOf (style_of first) (bound_of first) ent
 
 -- nothing is left of the conversation: it is not open, and nothing of it waits
 abbrev pub HasGone : HeldStage → ℕ → Type 0
-HasGone s id = (conversation (state_of s).world id ≡ None) × HasNoneWaiting id s.held
+HasGone s id = (conversation (state_of s).world id ≡ None) × HasNoneLeft id s.held
 
 -- the label of the next entry is kept where it is wanted, and the labels of other entries are as they were
 abbrev pub LabelsEntry : (old new : HeldStage) → LineLabel → Entry → Type 0

@@ -92,11 +92,12 @@ impl HeldStage {
         self.held.sink.waiting.put(number, kept)
     }
 
-    // Returns whether something is left of the conversation: it is open, or an entry of it waits.
+    // Returns whether something is left of the conversation: it is open, or the stage has met it since its last close, or
+    // a close of it waits. Of a refused opening the stage knows only that it came.
     fn has_left(&self, id: u32) -> bool
         ensures { IsFalse result → HasGone self.now id }
     {
-        self.held.sink.monitor.is_open(id) || self.held.waits(id)
+        self.held.sink.monitor.is_open(id) || self.held.has_left(id)
     }
 
     // Keeps the number of the line's name where something is left of its conversation.
