@@ -18,6 +18,7 @@ from typing import Callable, Iterator, List, Optional, Tuple
 from engine import Engine, EngineFault, Message, open_engine
 from monitor import Monitor, MonitorFault
 from ordering import Ordering
+from options import stream_parser
 from records import BadRecord, Line, Mark, Streams, parse_edit, parse_record
 
 IDLE_SECONDS, EDIT_SECONDS = 0.2, 60
@@ -117,10 +118,7 @@ def follow(adapter: Adapter, monitor: Monitor, messages: Iterator[Optional[Messa
 
 
 def arguments() -> argparse.Namespace:
-    parser = argparse.ArgumentParser(description=__doc__, formatter_class=argparse.RawDescriptionHelpFormatter)
-    parser.add_argument("--engine", metavar="ADDRESS", required=True, help="rabbit:HOST:PORT,.. or kafka:HOST:PORT,..")
-    parser.add_argument("--name", default="scribmon", help="the name of the logs (default: scribmon)")
-    parser.add_argument("--partitions", metavar="P", type=int, required=True, help="how many logs there are")
+    parser = stream_parser(__doc__)
     parser.add_argument("--program", metavar="FILE", type=Path, required=True, help="scribmon")
     parser.add_argument("--hold", metavar="N", type=int, default=10_000, help="as of watch (default: 10000)")
     parser.add_argument("partition", metavar="PARTITION", type=int)

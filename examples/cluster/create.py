@@ -6,18 +6,15 @@
 Streams that are there are left as they are.
 """
 
-import argparse
 import sys
 
 from engine import EngineFault, open_engine
+from options import stream_parser
 from records import Streams
 
 
 def main() -> int:
-    parser = argparse.ArgumentParser(description=__doc__, formatter_class=argparse.RawDescriptionHelpFormatter)
-    parser.add_argument("--engine", metavar="ADDRESS", required=True, help="rabbit:HOST:PORT,.. or kafka:HOST:PORT,..")
-    parser.add_argument("--name", default="scribmon", help="the name of the logs (default: scribmon)")
-    parser.add_argument("--partitions", metavar="P", type=int, required=True, help="how many logs there are")
+    parser = stream_parser(__doc__)
     options = parser.parse_args()
     streams = Streams(options.name, options.partitions).all()
     try:

@@ -8,7 +8,6 @@
 Prints the edit's number. Behind its mark a partition's replies have the reply, tagged `edit.` and the number.
 """
 
-import argparse
 import sys
 import time
 import uuid
@@ -16,6 +15,7 @@ from pathlib import Path
 from typing import Iterable
 
 from engine import Engine, EngineFault, open_engine
+from options import stream_parser
 from records import BadRecord, Edit, Mark, Streams, parse_edit
 
 IDLE_SECONDS, FIND_SECONDS = 1, 60
@@ -46,10 +46,7 @@ def put_marks(engine: Engine, streams: Streams, edit: int, partitions: Iterable[
 
 
 def main() -> int:
-    parser = argparse.ArgumentParser(description=__doc__, formatter_class=argparse.RawDescriptionHelpFormatter)
-    parser.add_argument("--engine", metavar="ADDRESS", required=True, help="rabbit:HOST:PORT,.. or kafka:HOST:PORT,..")
-    parser.add_argument("--name", default="scribmon", help="the name of the logs (default: scribmon)")
-    parser.add_argument("--partitions", metavar="P", type=int, required=True, help="how many logs there are")
+    parser = stream_parser(__doc__)
     parser.add_argument("verb", choices=["put", "withdraw", "profile"])
     parser.add_argument("argument", metavar="ARGUMENT", help="a file with a module, a module's name, or a profile")
     options = parser.parse_args()

@@ -7,13 +7,13 @@ Standard input has lines `SESSION VERB ARGS`, as `order-8f3a send Client Shop or
 published at once, up to N of a partition in one message. The program ends once all are confirmed.
 """
 
-import argparse
 import collections
 import os
 import sys
 from typing import Dict, Iterator, List
 
 from engine import Engine, EngineFault, open_engine
+from options import stream_parser
 from records import BadRecord, Line, Streams, parse_record
 
 READ_BYTES = 65_536
@@ -64,10 +64,7 @@ def pieces_of_input() -> Iterator[List[str]]:
 
 
 def main() -> int:
-    parser = argparse.ArgumentParser(description=__doc__, formatter_class=argparse.RawDescriptionHelpFormatter)
-    parser.add_argument("--engine", metavar="ADDRESS", required=True, help="rabbit:HOST:PORT,.. or kafka:HOST:PORT,..")
-    parser.add_argument("--name", default="scribmon", help="the name of the logs (default: scribmon)")
-    parser.add_argument("--partitions", metavar="P", type=int, required=True, help="how many logs there are")
+    parser = stream_parser(__doc__)
     parser.add_argument("--lines", metavar="N", type=int, default=100, help="of a message, at most (default: 100)")
     parser.add_argument("service", metavar="SERVICE", help="the producer's name in its lines")
     options = parser.parse_args()

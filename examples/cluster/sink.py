@@ -8,7 +8,6 @@ they differ from those that were printed the sink reports it and ends with statu
 SIGTERM; then standard error has its counts. Each start prints all replies from the beginning of the logs.
 """
 
-import argparse
 import os
 import queue
 import signal
@@ -17,6 +16,7 @@ import threading
 from typing import Dict, List, Optional, Tuple
 
 from engine import EngineFault, open_engine
+from options import stream_parser
 from records import Stream, Streams
 
 IDLE_SECONDS = 0.2
@@ -82,10 +82,7 @@ def print_replies(sink: Sink, arrived: "queue.Queue[Arrived]", stopping: List[in
 
 
 def main() -> int:
-    parser = argparse.ArgumentParser(description=__doc__, formatter_class=argparse.RawDescriptionHelpFormatter)
-    parser.add_argument("--engine", metavar="ADDRESS", required=True, help="rabbit:HOST:PORT,.. or kafka:HOST:PORT,..")
-    parser.add_argument("--name", default="scribmon", help="the name of the logs (default: scribmon)")
-    parser.add_argument("--partitions", metavar="P", type=int, required=True, help="how many logs there are")
+    parser = stream_parser(__doc__)
     options = parser.parse_args()
     stopping: List[int] = []
     signal.signal(signal.SIGTERM, lambda number, frame: stopping.append(number))
